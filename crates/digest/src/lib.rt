@@ -1,0 +1,1 @@
+// What a hash function is: definitions only, in specs/.

@@ -1,0 +1,4 @@
+pub mod FieldLaws
+pub mod InverseLaws
+pub mod SboxLaws
+pub mod Figures

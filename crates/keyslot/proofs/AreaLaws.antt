@@ -1,0 +1,124 @@
+-- Laws of an area: what filling and the candidate come to, lengths, and merging unit by unit over any diffusion function.
+use mathlib.Core.Path.{_≡_, refl, sym, ap, ap₂, _∙_}
+use mathlib.Core.List.{List, [], _++_, append-nil}
+use Prim.Native.Nat.{ℕ, zero, suc, _+_, _-_, _*_, _/_, _%_, _<_, _≤_}
+use native.Mathlib.Nat.{mul-le-mul-right, mul-assoc}
+use native.Mathlib.Numerals.{add-one}
+use native.Mathlib.Omega.{arith}
+use lib.ListN.{length, take, drop, length-append, length-drop}
+use lib.Seq.{take-all, take-at, drop-drop}
+use Rattle.octets.proofs.OctetsLaws.{length-xors}
+use Rattle.octets.proofs.PiecesLaws.{inPieces-more, inPieces-none}
+use Rattle.sha1.specs.Sha1.{sha1}
+use Rattle.pbkdf2.specs.Pbkdf2.{pbkdf2}
+use Rattle.aes.specs.Aes.{invCipher}
+use Rattle.aes.proofs.AesLaws.{length-invCipher}
+use Rattle.suite.specs.Split.{running, split, mergeFrom, merge}
+use Rattle.suite.specs.Units.{inUnits}
+use Rattle.suite.proofs.SplitLaws.{mergeFrom-append}
+use Rattle.splitter.specs.Diffuse.{diffuse}
+use Rattle.xts.specs.Xts.{double, block, blocks, dataUnit, xtsEncrypt, xtsDecrypt}
+use Rattle.xts.specs.Keys.{unitRun, unitDecrypt}
+use Rattle.xts.specs.declared.Keys.{Keys}
+use Rattle.rules.specs.Facts.{keyMaterial, candidateOf}
+use Rattle.built.specs.Built.{aesXtsSha1}
+use Rattle.keyslot.specs.Keyslot.{slotInput}
+
+-- ---- the front of a buffer that was lent to a call, y, and the slot key in it
+
+pub front-is : (n : ℕ) (y r q : List ℕ) → length y ≡ n → y ≡ q → take n (y ++ r) ≡ q
+front-is n y r q l e = take-at y r n l ∙ e
+
+pub slot-key-is : (passphrase salt : List ℕ) (count n : ℕ) (x y r : List ℕ) → length x ≡ n → length y ≡ n → y ≡ pbkdf2 sha1 passphrase salt count (length x)
+    → take n (y ++ r) ≡ pbkdf2 sha1 passphrase salt count n
+slot-key-is passphrase salt count n x y r lx ly e = front-is n y r (pbkdf2 sha1 passphrase salt count n) ly (e ∙ ap (pbkdf2 sha1 passphrase salt count) lx)
+
+-- ---- the two calls
+
+pub keyMaterial-is : (L n count : ℕ) (key passphrase salt random a₁ a₂ k : List ℕ) → a₁ ≡ split (diffuse sha1) L n random key
+    → k ≡ pbkdf2 sha1 passphrase salt count L → a₂ ≡ inUnits (xtsEncrypt k) 0 a₁
+    → a₂ ≡ keyMaterial aesXtsSha1 L n key (slotInput passphrase salt count random)
+unfolding keyMaterial aesXtsSha1
+keyMaterial-is L n count key passphrase salt random a₁ a₂ k e₁ ek e₂ =
+    e₂ ∙ ap₂ (λ (x y : List ℕ). inUnits (xtsEncrypt x) 0 y) ek e₁
+
+pub candidateOf-is : (L n count : ℕ) (passphrase salt area d k : List ℕ) (f : ℕ → List ℕ → List ℕ) → k ≡ pbkdf2 sha1 passphrase salt count L
+    → f ≡ xtsDecrypt k → d ≡ merge (diffuse sha1) L n (inUnits f 0 area)
+    → d ≡ candidateOf aesXtsSha1 L n passphrase salt count area
+unfolding candidateOf aesXtsSha1
+candidateOf-is L n count passphrase salt area d k f ek ef e =
+    e ∙ ap (λ (g : ℕ → List ℕ → List ℕ). merge (diffuse sha1) L n (inUnits g 0 area)) (ef ∙ ap xtsDecrypt ek)
+
+-- ---- lengths
+
+-- stripes of whole blocks are whole blocks
+pub whole-blocks : (n L x : ℕ) → n * L ≡ x → L % 32 ≡ 0 → x % 16 ≡ 0
+whole-blocks n L x e h =
+    let a : L ≡ L / 32 * 32 = omega arith in
+    let b : n * (L / 32 * 32) ≡ n * (L / 32) * 32 = sym (mul-assoc n (L / 32) 32) in
+    let c : x ≡ n * (L / 32) * 32 = sym e ∙ ap (λ (k : ℕ). n * k) a ∙ b in
+    omega (arith, c)
+
+length-blocks : (f : List ℕ → List ℕ) → ((x : List ℕ) → length (f x) ≡ 16) → (m : ℕ) (t s : List ℕ) → length (blocks f m t s) ≡ m * 16
+unfolding blocks block
+length-blocks f hf zero t s = refl
+length-blocks f hf (suc m) t s =
+    let b : List ℕ = block f t (take 16 s) in
+    let r : List ℕ = blocks f m (double t) (drop 16 s) in
+    let lb : length b ≡ 16 = length-xors (f _) t ∙ hf _ in
+    let lr : length r ≡ m * 16 = length-blocks f hf m (double t) (drop 16 s) in
+    length-append b r ∙ omega (arith, lb, lr)
+
+pub length-unitDecrypt : (k : Keys) (u : ℕ) (x : List ℕ) → length x % 16 ≡ 0 → length (unitDecrypt k u x) ≡ length x
+unfolding unitRun dataUnit
+length-unitDecrypt k u x h =
+    length-blocks (invCipher (k .rounds) (k .blocks)) (length-invCipher (k .rounds) (k .blocks)) (length x / 16) _ x ∙ omega arith
+
+-- ---- how many stripes are left, where a unit holds per of them
+
+module _ (L per left : ℕ) (e : per * L ≡ 512) where
+  pub more-left : 512 < left * L → per < left
+  more-left h = go (left - per) refl
+    where
+      go : (k : ℕ) → left - per ≡ k → per < left
+      go (suc k) q = omega arith
+      go zero q = absurd (let b : left ≤ per = omega arith in let m : left * L ≤ per * L = mul-le-mul-right L b in omega arith)
+
+  pub less-left : (x : ℕ) → per < left → left * L ≡ x → (left - per) * L ≡ x - 512
+  less-left x h f =
+      let a : left ≡ (left - per) + per = omega arith in
+      let b : left * L ≡ ((left - per) + per) * L = ap (λ (n : ℕ). n * L) a in
+      omega arith
+
+-- ---- merging unit by unit; f is what a unit becomes
+
+module _ (H : List ℕ → List ℕ) (L : ℕ) (f : ℕ → List ℕ → List ℕ) (at u left : ℕ) (d d′ area q : List ℕ) (ld : length d ≡ L)
+    (e : mergeFrom H L d (left - 1) (inUnits f u (drop at area)) ≡ q) where
+  -- a unit more, of per stripes, lent up to index at + 512
+  pub merge-more : (per : ℕ) → 512 < length area - at → per < left → per * L ≡ 512
+      → length (f u (take (at + 512 - at) (drop at area))) ≡ 512
+      → d′ ≡ running H (length d) d per (f u (take (at + 512 - at) (drop at area)))
+      → mergeFrom H L d′ (left - per - 1) (inUnits f (u + 1) (drop (at + 512) area)) ≡ q
+  merge-more per h hl hp ly ed =
+      let z : at + 512 - at ≡ 512 = omega arith in
+      let j : left - per - 1 ≡ (left - 1) - per = omega arith in
+      let y : List ℕ = f u (take 512 (drop at area)) in
+      let r : List ℕ = inUnits f (suc u) (drop 512 (drop at area)) in
+      let y′ : f u (take (at + 512 - at) (drop at area)) ≡ y = ap (λ (n : ℕ). f u (take n (drop at area))) z in
+      let r′ : inUnits f (u + 1) (drop (at + 512) area) ≡ r = ap₂ (λ (n : ℕ) (x : List ℕ). inUnits f n x) (add-one u) (sym (drop-drop 512 at area)) in
+      ap₂ (λ (n : ℕ) (x : List ℕ). mergeFrom H L d′ n x) j r′
+      ∙ ap (λ (x : List ℕ). mergeFrom H L x (left - 1 - per) r) (ed ∙ ap₂ (λ (n : ℕ) (x : List ℕ). running H n d per x) ld y′)
+      ∙ sym (mergeFrom-append H L (left - 1) per d y r (omega arith) (sym (ap length y′) ∙ ly ∙ sym hp))
+      ∙ ap (mergeFrom H L d (left - 1)) (sym (inPieces-more 512 (omega arith) f u (drop at area) (omega (arith, length-drop at area))))
+      ∙ e
+
+  -- the last unit, lent up to the area's end
+  pub merge-end : at < length area → length area - at ≤ 512
+      → d′ ≡ mergeFrom H (length d) d (left - 1) (f u (take (length area - at) (drop at area))) → d′ ≡ q
+  merge-end h1 h ed =
+      let x : List ℕ = drop at area in
+      let l : length x ≡ length area - at = length-drop at area in
+      let a : take (length area - at) x ≡ take 512 x = take-all (length area - at) x (omega arith) ∙ sym (take-all 512 x (omega arith)) in
+      let n : inUnits f (suc u) (drop 512 x) ≡ [] = inPieces-none 512 (omega arith) f (suc u) (drop 512 x) (length-drop 512 x ∙ omega arith) in
+      let m : inUnits f u x ≡ f u (take 512 x) = inPieces-more 512 (omega arith) f u x (omega arith) ∙ ap (λ (r : List ℕ). f u (take 512 x) ++ r) n ∙ append-nil (f u (take 512 x)) in
+      ed ∙ ap₂ (λ (n : ℕ) (y : List ℕ). mergeFrom H n d (left - 1) (f u y)) ld a ∙ ap (mergeFrom H L d (left - 1)) (sym m) ∙ e

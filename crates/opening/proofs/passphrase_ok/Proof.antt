@@ -1,0 +1,14 @@
+-- `opening::passphrase_ok` meets its contract.
+use native.Mathlib.Omega.{arith}
+use Rattle.opening.proofs.TrialLaws.{passphrase-short, passphrase-is}
+use Rattle.opening.proofs.passphrase_ok.Statement.{statement}
+use Rattle.opening.proofs.passphrase_ok.Tie as tie
+
+returns : tie.Need-returns
+returns c = passphrase-short (c .before .args .passphrase .now) (omega arith)
+
+returns-2 : tie.Need-returns-2
+returns-2 c = passphrase-is (c .before .args .passphrase .now) (omega arith)
+
+pub passphrase-ok-spec : {M : Type 1} → statement M
+passphrase-ok-spec = tie.close (tie.spec returns returns-2)

@@ -1,0 +1,3 @@
+pub mod Pbkdf2Laws
+pub mod WordsLaws
+pub mod Vectors

@@ -1,0 +1,113 @@
+-- `splitter::diffuse_in` meets its contract.
+use mathlib.Core.Path.{_≡_, refl, sym, ap, _∙_}
+use mathlib.Core.List.{_++_}
+use Prim.Native.Nat.{ℕ, _-_, _≤_, min}
+use native.Mathlib.Omega.{arith}
+use lib.ListN.{length, take, drop}
+use lib.Seq.{length-take-le}
+use borrow.Author.Needs.{needs}
+use Rattle.octets.specs.Pieces.{inPieces}
+use Rattle.sha1.specs.Sha1.{sha1}
+use Rattle.splitter.specs.Diffuse.{pieceDigest, diffuse}
+use Rattle.splitter.proofs.DiffuseLaws.{diffuse-step, diffuse-end}
+use Rattle.splitter.proofs.diffuse_in.Statement.{statement}
+use Rattle.splitter.proofs.diffuse_in.Tie as tie
+
+abbrev Inv-loop : tie.InvT-loop
+Inv-loop s₀ len i₀ at₀ s i at = (at ≤ length s₀) × (i ≤ at) × (length s ≡ length s₀) × (take at s ++ inPieces 20 (pieceDigest sha1) i (drop at s) ≡ diffuse sha1 s₀)
+
+abbrev μ-loop : tie.MeasureT-loop
+μ-loop s₀ len i₀ at₀ s i at = length s₀ - at
+
+loop-holds : tie.Need-loop-holds Inv-loop μ-loop
+unfolding diffuse
+loop-holds c = (omega arith, omega arith, refl, refl)
+
+sub-least : tie.Need-sub-least Inv-loop μ-loop
+sub-least c = search needs
+
+least-requires : tie.Need-least-requires Inv-loop μ-loop
+least-requires c κs = search needs
+
+add-e : tie.Need-add-e Inv-loop μ-loop
+add-e c = search needs
+
+sub-numbered-digest : tie.Need-sub-numbered-digest Inv-loop μ-loop
+sub-numbered-digest c = search needs
+
+part-numbered-digest-start : tie.Need-part-numbered-digest-start Inv-loop μ-loop
+part-numbered-digest-start c = search needs
+
+part-numbered-digest-end : tie.Need-part-numbered-digest-end Inv-loop μ-loop
+part-numbered-digest-end c = search needs
+
+numbered-digest-requires : tie.Need-numbered-digest-requires Inv-loop μ-loop
+numbered-digest-requires c κs = search needs
+
+array-share-prefix-h : tie.Need-array-share-prefix-h Inv-loop μ-loop
+array-share-prefix-h c = search needs
+
+slice-aggregate-copy-into : tie.Need-slice-aggregate-copy-into Inv-loop μ-loop
+slice-aggregate-copy-into c =
+    let h = c .before .before .numbered-digest .result in
+    let n = c .before .before .before .before .before .least in
+    let l : length h ≡ 20 = search needs in
+    sym (length-take-le (n .result) h (omega (arith, n .ensures)))
+
+copy-into-requires : tie.Need-copy-into-requires Inv-loop μ-loop
+copy-into-requires c κs =
+    let h = c .before .before .numbered-digest .result in
+    let n = c .before .before .before .before .before .least in
+    let l : length h ≡ 20 = search needs in
+    let k = length-take-le (n .result) h (omega (arith, n .ensures)) in
+    omega (arith, k, n .ensures)
+
+add-i : tie.Need-add-i Inv-loop μ-loop
+add-i c = search needs
+
+loop-less : tie.Need-loop-less Inv-loop μ-loop
+loop-less c = search needs
+
+loop-again : tie.Need-loop-again Inv-loop μ-loop
+loop-again c =
+    let l = c .before .before .before .before .before .before .before .before .before .before .loop in
+    let s₀ = c .before .before .before .before .before .before .before .before .before .before .before .before .args .d .now in
+    let n = c .before .before .before .before .before .before .before .before .least in
+    let h = c .before .before .before .before .before .numbered-digest in
+    let s′ = c .before .before .copy-into .last .0 in (
+      omega (arith, n .ensures),
+      omega (arith, n .ensures),
+      search needs,
+      diffuse-step sha1 (omega arith) (l .at) (n .result) (l .i) (l .d) s′ (h .result) (diffuse sha1 s₀) (omega arith) (n .ensures ∙ ap (λ (k : ℕ). min 20 (k - l .at)) (sym (l .inv .2))) (search needs) (h .ensures) (c .before .before .copy-into .ensures) (l .inv .3),
+    )
+
+same-length : tie.Need-same-length Inv-loop μ-loop
+same-length c = search needs
+
+returns : tie.Need-returns Inv-loop μ-loop
+returns c =
+    let l = c .before .loop in
+    diffuse-end sha1 (omega arith) (l .at) (l .i) (l .d) (diffuse sha1 (c .before .before .before .args .d .now)) (omega arith) (l .inv .3)
+
+pub diffuse-in-spec : {M : Type 1} → statement M
+diffuse-in-spec =
+    tie.close
+    (tie.spec
+    Inv-loop
+    μ-loop
+    loop-holds
+    sub-least
+    least-requires
+    add-e
+    sub-numbered-digest
+    part-numbered-digest-start
+    part-numbered-digest-end
+    numbered-digest-requires
+    array-share-prefix-h
+    slice-aggregate-copy-into
+    copy-into-requires
+    add-i
+    loop-less
+    loop-again
+    same-length
+    returns)

@@ -1,0 +1,62 @@
+-- `splitter::merge_from` meets its contract.
+use mathlib.Core.Path.{sym}
+use Prim.Native.Nat.{_-_}
+use native.Mathlib.Omega.{arith}
+use lib.ListN.{length}
+use lib.Seq.{length-take-le}
+use borrow.Author.Needs.{needs}
+use Rattle.sha1.specs.Sha1.{sha1}
+use Rattle.splitter.specs.Diffuse.{diffuse}
+use Rattle.splitter.proofs.StripesLaws.{mergeFrom-is}
+use Rattle.splitter.proofs.merge_from.Statement.{statement}
+use Rattle.splitter.proofs.merge_from.Tie as tie
+
+sub-k : tie.Need-sub-k
+sub-k c = search needs
+
+slice-aggregate-add-stripes : tie.Need-slice-aggregate-add-stripes
+slice-aggregate-add-stripes c =
+    let a = c .before .before .before .before .args in
+    sym (length-take-le (length (a .stripes .now) - length (a .d .now)) (a .stripes .now) (omega arith))
+
+add-stripes-requires : tie.Need-add-stripes-requires
+add-stripes-requires c κs =
+    let a = c .before .before .before .before .args in
+    let k = length-take-le (length (a .stripes .now) - length (a .d .now)) (a .stripes .now) (omega arith) in
+    (omega arith, omega (arith, k))
+
+sub-xor-into : tie.Need-sub-xor-into
+sub-xor-into c = search needs
+
+part-xor-into-start : tie.Need-part-xor-into-start
+part-xor-into-start c = search needs
+
+part-xor-into-end : tie.Need-part-xor-into-end
+part-xor-into-end c = search needs
+
+xor-into-requires : tie.Need-xor-into-requires
+xor-into-requires c κs = search needs
+
+same-length : tie.Need-same-length
+same-length c = search needs
+
+returns : tie.Need-returns
+returns c =
+    let a = c .before .before .before .before .before .before .before .before .before .before .before .before .args in
+    let L = length (a .d .now) in
+    mergeFrom-is (diffuse sha1) L (a .m) (length (a .stripes .now) - L) (a .d .now) (c .before .before .before .before .before .before .before .add-stripes .last .0) _ (a .stripes .now) (omega arith)
+    (c .before .before .before .before .before .before .before .add-stripes .ensures) (c .before .before .xor-into .ensures)
+
+pub merge-from-spec : {M : Type 1} → statement M
+merge-from-spec =
+    tie.close
+    (tie.spec
+    sub-k
+    slice-aggregate-add-stripes
+    add-stripes-requires
+    sub-xor-into
+    part-xor-into-start
+    part-xor-into-end
+    xor-into-requires
+    same-length
+    returns)

@@ -1,0 +1,37 @@
+-- `splitter::merge_into` meets its contract.
+use mathlib.Core.Path.{_≡_, ap}
+use Prim.Native.Nat.{ℕ, _-_, _*_}
+use native.Mathlib.Omega.{arith}
+use lib.ListN.{length}
+use borrow.Author.Needs.{needs}
+use Rattle.sha1.specs.Sha1.{sha1}
+use Rattle.splitter.specs.Diffuse.{diffuse}
+use Rattle.splitter.proofs.StripesLaws.{merge-is}
+use Rattle.splitter.proofs.merge_into.Statement.{statement}
+use Rattle.splitter.proofs.merge_into.Tie as tie
+
+clear-requires : tie.Need-clear-requires
+clear-requires c κs = search needs
+
+sub-merge-from : tie.Need-sub-merge-from
+sub-merge-from c = search needs
+
+merge-from-requires : tie.Need-merge-from-requires
+merge-from-requires c κs =
+    let a = c .before .before .before .before .before .before .before .args in
+    let l : length (c .before .before .before .clear .last .0) ≡ length (a .d .now) = search needs in
+    (omega (arith, ap (λ (n : ℕ). (a .n - 1) * n) l), omega arith)
+
+same-length : tie.Need-same-length
+same-length c = search needs
+
+returns : tie.Need-returns
+returns c =
+    let a = c .before .before .before .before .before .before .before .before .before .before .args in
+    let d = c .before .before .before .before .before .before .clear in
+    let l : length (d .last .0) ≡ length (a .d .now) = search needs in
+    merge-is (diffuse sha1) (length (a .d .now)) (a .n) (d .last .0) _ (a .stripes .now) l (d .ensures) (c .before .before .merge-from .ensures)
+
+pub merge-into-spec : {M : Type 1} → statement M
+merge-into-spec =
+    tie.close (tie.spec clear-requires sub-merge-from merge-from-requires same-length returns)

@@ -1,0 +1,76 @@
+-- `splitter::numbered_digest` meets its contract.
+use mathlib.Core.Path.{_≡_, sym, ap, _∙_}
+use Prim.Native.Nat.{_+_}
+use native.Mathlib.Omega.{arith}
+use lib.ListN.{length}
+use lib.Seq.{length-take-le}
+use borrow.Author.Needs.{needs}
+use Rattle.octets.specs.Octets.{bigEndian}
+use Rattle.octets.proofs.OctetsLaws.{length-bigEndian}
+use Rattle.sha1.specs.Sha1.{hash, sha1}
+use Rattle.splitter.proofs.DiffuseLaws.{put-two}
+use Rattle.splitter.proofs.numbered_digest.Statement.{statement}
+use Rattle.splitter.proofs.numbered_digest.Tie as tie
+
+be32-requires : tie.Need-be32-requires
+be32-requires c κs = search needs
+
+slice-aggregate-copy-into : tie.Need-slice-aggregate-copy-into
+slice-aggregate-copy-into c = search needs
+
+slice-aggregate-copy-into-2 : tie.Need-slice-aggregate-copy-into-2
+slice-aggregate-copy-into-2 c = search needs
+
+copy-into-requires : tie.Need-copy-into-requires
+copy-into-requires c κs = search needs
+
+slice-aggregate-copy-into-3 : tie.Need-slice-aggregate-copy-into-3
+slice-aggregate-copy-into-3 c = search needs
+
+copy-into-requires-2 : tie.Need-copy-into-requires-2
+copy-into-requires-2 c κs = search needs
+
+add-e : tie.Need-add-e
+add-e c = search needs
+
+array-share-prefix-b : tie.Need-array-share-prefix-b
+array-share-prefix-b c = search needs
+
+slice-aggregate-sha1 : tie.Need-slice-aggregate-sha1
+slice-aggregate-sha1 c =
+    let P = c .before .before .before .before .before .before .before .before .before .before .args .piece .now in
+    let b = c .before .before .copy-into2 .last .0 in
+    let l : length b ≡ 24 = search needs in
+    sym (length-take-le (4 + length P) b (omega arith))
+
+sha1-requires : tie.Need-sha1-requires
+sha1-requires c κs =
+    let P = c .before .before .before .before .before .before .before .before .before .before .args .piece .now in
+    let b = c .before .before .copy-into2 .last .0 in
+    let l : length b ≡ 24 = search needs in
+    let m = length-take-le (4 + length P) b (omega arith) in
+    omega (arith, m)
+
+returns : tie.Need-returns
+returns c =
+    let P = c .before .before .before .before .before .before .before .before .before .before .before .args .piece .now in
+    let n = c .before .before .before .before .before .before .before .before .before .before .before .args .number in
+    c .sha1 .ensures
+    ∙ ap hash (put-two _ (bigEndian 4 n) _ P (c .before .before .before .before .before .before .copy-into .last .0) (c .before .before .before .copy-into2 .last .0) 4 (length-bigEndian 4 n)
+    (c .before .before .before .before .before .before .before .before .before .be32 .ensures) (c .before .before .before .before .before .before .copy-into .ensures) (c .before .before .before .copy-into2 .ensures))
+
+pub numbered-digest-spec : {M : Type 1} → statement M
+numbered-digest-spec =
+    tie.close
+    (tie.spec
+    be32-requires
+    slice-aggregate-copy-into
+    slice-aggregate-copy-into-2
+    copy-into-requires
+    slice-aggregate-copy-into-3
+    copy-into-requires-2
+    add-e
+    array-share-prefix-b
+    slice-aggregate-sha1
+    sha1-requires
+    returns)

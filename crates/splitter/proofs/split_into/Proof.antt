@@ -1,0 +1,54 @@
+-- `splitter::split_into` meets its contract.
+use mathlib.Core.Path.{_≡_, refl}
+use Prim.Native.Nat.{_-_}
+use native.Mathlib.Omega.{arith}
+use lib.ListN.{length}
+use borrow.Author.Needs.{needs}
+use Rattle.sha1.specs.Sha1.{sha1}
+use Rattle.splitter.specs.Diffuse.{diffuse}
+use Rattle.splitter.proofs.StripesLaws.{split-is}
+use Rattle.splitter.proofs.split_into.Statement.{statement}
+use Rattle.splitter.proofs.split_into.Tie as tie
+
+copy-into-requires : tie.Need-copy-into-requires
+copy-into-requires c κs = search needs
+
+sub-last-stripe : tie.Need-sub-last-stripe
+sub-last-stripe c = search needs
+
+part-last-stripe-start : tie.Need-part-last-stripe-start
+part-last-stripe-start c = search needs
+
+part-last-stripe-end : tie.Need-part-last-stripe-end
+part-last-stripe-end c = search needs
+
+sub-last-stripe-2 : tie.Need-sub-last-stripe-2
+sub-last-stripe-2 c = search needs
+
+last-stripe-requires : tie.Need-last-stripe-requires
+last-stripe-requires c κs = search needs
+
+same-length : tie.Need-same-length
+same-length c = search needs
+
+returns : tie.Need-returns
+returns c =
+    let a = c .before .before .before .before .before .before .before .before .before .before .before .args in
+    let b = c .before .before .before .before .before .before .copy-into .last .0 in
+    let y = c .before .before .last-stripe in
+    let l : length b ≡ length (a .area .now) = search needs in
+    split-is (diffuse sha1) (length (a .key .now)) (a .n) (length b - length (a .random .now)) (a .area .now) b _ (y .last .0) (a .random .now) (a .key .now)
+    (omega arith) (c .before .before .before .before .before .before .copy-into .ensures) (y .ensures) refl
+
+pub split-into-spec : {M : Type 1} → statement M
+split-into-spec =
+    tie.close
+    (tie.spec
+    copy-into-requires
+    sub-last-stripe
+    part-last-stripe-start
+    part-last-stripe-end
+    sub-last-stripe-2
+    last-stripe-requires
+    same-length
+    returns)

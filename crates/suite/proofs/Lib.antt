@@ -1,0 +1,2 @@
+pub mod UnitsLaws
+pub mod SplitLaws

@@ -5,16 +5,14 @@ use mathlib.Core.Bool.{Bool, true, false}
 use Prim.Native.Nat.{ℕ, zero, suc, _+_, _-_, _*_, _≤_, _<_}
 use native.Mathlib.Nat.{sub-zero}
 use native.Mathlib.Omega.{arith}
-use lib.Dec.{leb}
 use lib.ListN.{length, take, drop, replicate}
-use borrow.Author.Tests.{le-leb, lt-leb, leb-true}
 use Rattle.octets.specs.Octets.{quadAt, zeros}
 use Rattle.octets.specs.Splice.{slice}
-use Rattle.octets.proofs.BoolLaws.{and-no, and-yes, and-split}
+use Rattle.octets.proofs.BoolLaws.{and-no, and-yes}
 use Rattle.rules.specs.Checks.{first}
 use Rattle.rules.specs.Facts.{factsOf, slotAt, slotOf, isEnabled, matches, candidateOf, candidate}
 use Rattle.rules.specs.Header.{headerChecks}
-use Rattle.rules.specs.Calls.{passphraseOk, opens}
+use Rattle.rules.specs.Calls.{opens}
 use Rattle.rules.proofs.StepLaws.{slotOf-image}
 use Rattle.built.specs.Built.{aesXtsSha1, built}
 use Rattle.header.specs.declared.Slot.{Slot}
@@ -23,20 +21,6 @@ use Rattle.header.specs.Layout.{slotIn}
 use Rattle.header.proofs.SlotLaws.{stripes-fit}
 use Rattle.header.proofs.SoundLaws.{sound}
 use Rattle.opening.specs.Opening.{keyOf}
-
--- ---- a passphrase's length
-
-pub passphrase-short : (p : List ℕ) → length p < 1 → false ≡ passphraseOk p
-unfolding passphraseOk
-passphrase-short p h = rw (lt-leb 1 (length p) h)
-
-pub passphrase-is : (p : List ℕ) → 1 ≤ length p → leb (length p) 512 ≡ passphraseOk p
-unfolding passphraseOk
-passphrase-is p h = rw (le-leb 1 (length p) h)
-
-pub passphrase-in : (p : List ℕ) → passphraseOk p ≡ true → (1 ≤ length p) × (length p ≤ 512)
-unfolding passphraseOk
-passphrase-in p e = let q = and-split (leb 1 (length p)) (leb (length p) 512) e in (leb-true 1 (length p) (q .0), leb-true (length p) 512 (q .1))
 
 -- ---- the area of slot k, from 0, with the record r
 

@@ -42,16 +42,6 @@ pub struct Search {
     pub key: [u8; 64],
 }
 
-// Is the passphrase 1 to 512 bytes?
-pub fn passphrase_ok(passphrase: &[u8]) -> bool
-    ensures { λ r. ⌜ r ≡ passphraseOk (now (passphrase .entry)) ⌝ }
-{
-    if passphrase.len() < 1 {
-        return false;
-    }
-    passphrase.len() <= 512
-}
-
 // The candidate of slot k, from 0, in d.
 pub fn slot_candidate(d: &mut [u8], image: &[u8], k: usize, passphrase: &[u8])
     requires { ⌜ (first (headerChecks built (now image)) ≡ 0) × (k < 8) × (isEnabled (slotIn (now image) k) ≡ true) × (length (now d) ≡ quadAt (now image) 108) × (length (now passphrase) ≤ 512) ⌝ }
@@ -100,10 +90,10 @@ fn open_slot_check(image: &[u8], slot: u8, passphrase: &[u8]) -> Refusal
     requires { ⌜ first (headerChecks built (now image)) ≡ 0 ⌝ }
     ensures { λ r. ⌜ number r ≡ first ((slotNumberOk slot, 13) ∷ (passphraseOk (now (passphrase .entry)), 14) ∷ (isEnabled (slotOf (factsOf built (now (image .entry))) slot), 15) ∷ []) ⌝ }
 {
-    if !revoking::slot_number_ok(slot) {
+    if !header::arguments::slot_number_ok(slot) {
         return Refusal::BadSlot;
     }
-    if !passphrase_ok(passphrase) {
+    if !header::arguments::passphrase_ok(passphrase) {
         return Refusal::BadPassphrase;
     }
     let s = header::slots::slot_at(image, (slot - 1) as usize);
@@ -167,7 +157,7 @@ pub fn open(image: &[u8], passphrase: &[u8]) -> Opened
     if header::number_of(h) != 0 {
         return refused(h);
     }
-    if !passphrase_ok(passphrase) {
+    if !header::arguments::passphrase_ok(passphrase) {
         return refused(Refusal::BadPassphrase);
     }
     let s = find_slot(image, passphrase);

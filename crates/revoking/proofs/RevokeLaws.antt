@@ -5,13 +5,13 @@ use mathlib.Core.Bool.{Bool, true, false, _||_}
 use Prim.Native.Nat.{ℕ, zero, suc, _+_, _-_, _*_, _≤_, _<_}
 use native.Mathlib.Numerals.{add-one}
 use native.Mathlib.Omega.{arith}
-use lib.Dec.{eqb, leb}
+use lib.Dec.{eqb}
 use lib.ListN.{length, take, drop, replicate}
 use lib.Seq.{drop-cons}
-use borrow.Author.Tests.{le-leb, lt-leb, leb-true, eqb-true}
+use borrow.Author.Tests.{le-leb, eqb-true}
 use Rattle.octets.specs.Octets.{bigEndian, zeros, quadAt}
 use Rattle.octets.specs.Splice.{splice}
-use Rattle.octets.proofs.BoolLaws.{and-split, or-yes, or-no}
+use Rattle.octets.proofs.BoolLaws.{or-yes, or-no}
 use Rattle.rules.specs.Checks.{first}
 use Rattle.rules.specs.Layout.{slots}
 use Rattle.rules.specs.Facts.{Facts, SlotFacts, factsOf, slotOf, isEnabled, disabled}
@@ -22,21 +22,8 @@ use Rattle.rules.proofs.ChecksLaws.{accepted}
 use Rattle.rules.proofs.StepLaws.{slots-at, slotOf-image}
 use Rattle.built.specs.Built.{aesXtsSha1, built}
 use Rattle.header.specs.Layout.{slotIn}
+use Rattle.header.proofs.ArgumentLaws.{number-is, number-in}
 use Rattle.header.proofs.SoundLaws.{sound}
-
--- ---- a slot's number
-
-pub number-low : (k : ℕ) → k < 1 → false ≡ slotNumberOk k
-unfolding slotNumberOk
-number-low k h = rw (lt-leb 1 k h)
-
-pub number-is : (k : ℕ) → 1 ≤ k → leb k 8 ≡ slotNumberOk k
-unfolding slotNumberOk
-number-is k h = rw (le-leb 1 k h)
-
-pub number-in : (k : ℕ) → slotNumberOk k ≡ true → (1 ≤ k) × (k ≤ 8)
-unfolding slotNumberOk
-number-in k e = let p = and-split (leb 1 k) (leb k 8) e in (leb-true 1 k (p .0), leb-true k 8 (p .1))
 
 -- ---- scans
 
@@ -146,12 +133,12 @@ module _ (image : List ℕ) (ok : first (headerChecks built image) ≡ 0) (slot 
 
   -- what an accepted call's arguments are
   pub room : first (checks facts (revoke slot filler)) ≡ 0 → (1 ≤ slot) × (slot ≤ 8) × (length filler ≡ slotIn image (slot - 1) .stripes * quadAt image 108)
-  unfolding checks slotNumberOk
+  unfolding checks
   room e =
       let p = accepted (checks facts (revoke slot filler)) refl e in
-      let n = and-split (leb 1 slot) (leb slot 8) (p .0) in
-      let h₁ : 1 ≤ slot = leb-true 1 slot (n .0) in
-      let h₈ : slot ≤ 8 = leb-true slot 8 (n .1) in
+      let n = number-in slot (p .0) in
+      let h₁ : 1 ≤ slot = n .0 in
+      let h₈ : slot ≤ 8 = n .1 in
       (h₁, h₈, eqb-true _ _ (sym (filler-is h₁ h₈) ∙ p .1 .1 .1 .0))
 
 -- ---- what is written

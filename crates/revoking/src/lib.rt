@@ -10,21 +10,11 @@ ghost use Rattle.rules.specs.Checks.{first};
 ghost use Rattle.rules.specs.Layout.{slots};
 ghost use Rattle.rules.specs.Facts.{factsOf, disabled};
 ghost use Rattle.rules.specs.Header.{headerChecks};
-ghost use Rattle.rules.specs.Calls.{revoke, checks, anyEnabled, otherEnabled, slotNumberOk};
+ghost use Rattle.rules.specs.Calls.{revoke, checks, anyEnabled, otherEnabled};
 ghost use Rattle.rules.specs.Step.{step, written, recordHead, disableWrites};
 ghost use Rattle.built.specs.Built.{built};
 ghost use Rattle.header.specs.Refusals.{number};
 ghost use Rattle.header.specs.Layout.{slotIn};
-
-// Is the slot number 1 to 8?
-pub fn slot_number_ok(slot: u8) -> bool
-    ensures { λ r. ⌜ r ≡ slotNumberOk slot ⌝ }
-{
-    if slot < 1 {
-        return false;
-    }
-    slot <= 8
-}
 
 // Is one of the slots from, .., to − 1 enabled? Slots count from 0.
 fn any_enabled(image: &[u8], from: usize, to: usize) -> bool
@@ -80,7 +70,7 @@ fn revoke_check(image: &[u8], slot: u8, filler: &[u8]) -> Refusal
     requires { ⌜ first (headerChecks built (now image)) ≡ 0 ⌝ }
     ensures { λ r. ⌜ number r ≡ first (checks (factsOf built (now (image .entry))) (revoke slot (now (filler .entry)))) ⌝ }
 {
-    if !slot_number_ok(slot) {
+    if !header::arguments::slot_number_ok(slot) {
         return Refusal::BadSlot;
     }
     let k = (slot - 1) as usize;

@@ -156,3 +156,7 @@ noKey (write key u n buffer) = []
 -- a call refused with a number: "refused, all of these are zero"
 unfoldable pub refused : ℕ → Call → Answer
 refused r c = record { code = r; slot = 0; keyLength = 0; key = noKey c; bytes = [] }
+
+-- a read's buffer b after the answer a: the bytes read, or where the read is refused b as it was
+unfoldable pub bufferAfter : Answer → List ℕ → List ℕ
+bufferAfter a b = cond (eqb (a .code) 0) (a .bytes) b

@@ -6,7 +6,6 @@ use borrow.Author.Needs.{needs}
 use Rattle.rules.specs.Facts.{factsOf}
 use Rattle.rules.specs.Calls.{seek}
 use Rattle.built.specs.Built.{built}
-use Rattle.opening.proofs.TrialLaws.{slot-is}
 use Rattle.opening.proofs.OpenLaws.{seek-hit, seek-miss, seek-none}
 use Rattle.opening.proofs.find_slot.Statement.{statement}
 use Rattle.opening.proofs.find_slot.Tie as tie

@@ -1,7 +1,6 @@
 -- `opening::refused` meets its contract.
 use mathlib.Core.Path.{refl}
 use Rattle.octets.specs.Octets.{zeros}
-use Rattle.opening.proofs.TrialLaws.{slot-is}
 use Rattle.opening.proofs.refused.Statement.{statement}
 use Rattle.opening.proofs.refused.Tie as tie
 

@@ -1,8 +1,8 @@
--- `opening::passphrase_ok` meets its contract.
+-- `header::arguments::passphrase_ok` meets its contract.
 use native.Mathlib.Omega.{arith}
-use Rattle.opening.proofs.TrialLaws.{passphrase-short, passphrase-is}
-use Rattle.opening.proofs.passphrase_ok.Statement.{statement}
-use Rattle.opening.proofs.passphrase_ok.Tie as tie
+use Rattle.header.proofs.ArgumentLaws.{passphrase-short, passphrase-is}
+use Rattle.header.proofs.arguments.passphrase_ok.Statement.{statement}
+use Rattle.header.proofs.arguments.passphrase_ok.Tie as tie
 
 returns : tie.Need-returns
 returns c = passphrase-short (c .before .args .passphrase .now) (omega arith)

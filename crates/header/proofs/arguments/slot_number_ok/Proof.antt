@@ -1,8 +1,8 @@
--- `revoking::slot_number_ok` meets its contract.
+-- `header::arguments::slot_number_ok` meets its contract.
 use native.Mathlib.Omega.{arith}
-use Rattle.revoking.proofs.RevokeLaws.{number-low, number-is}
-use Rattle.revoking.proofs.slot_number_ok.Statement.{statement}
-use Rattle.revoking.proofs.slot_number_ok.Tie as tie
+use Rattle.header.proofs.ArgumentLaws.{number-low, number-is}
+use Rattle.header.proofs.arguments.slot_number_ok.Statement.{statement}
+use Rattle.header.proofs.arguments.slot_number_ok.Tie as tie
 
 returns : tie.Need-returns
 returns c = number-low (c .before .args .slot) (omega arith)

@@ -1,0 +1,3 @@
+pub mod UuidLaws
+pub mod FieldsLaws
+pub mod FormatLaws

@@ -1,0 +1,77 @@
+-- `formatting::write_drive` meets its contract.
+use mathlib.Core.Path.{sym}
+use Prim.Native.Nat.{_*_, _≤_}
+use native.Mathlib.Omega.{arith}
+use lib.ListN.{length}
+use lib.Seq.{length-take-le}
+use borrow.Author.Needs.{needs}
+use Rattle.formatting.proofs.FormatLaws.{Fit, fit, drive-written}
+use Rattle.formatting.proofs.write_drive.Statement.{statement}
+use Rattle.formatting.proofs.write_drive.Tie as tie
+
+fits : (s : tie.Start) → Fit (s .args .image .now) (s .args .profile) (s .args .stripes) (s .args .key .now) (s .args .count) (s .args .uuid .now)
+fits s = fit (s .args .image .now) (s .args .profile) (s .args .stripes) (s .args .key .now) (s .args .salt .now) (s .args .count) (s .args .uuid .now) (s .pre)
+
+room : (c : tie.After-payload-start) → c .payload-start .result .0 * 512 ≤ length (c .before .before .before .before .args .image .now)
+room c = omega (arith, c .payload-start .ensures .0, fits (c .before .before .before .before) .payload-ends)
+
+cast-payload-start : tie.Need-cast-payload-start
+cast-payload-start c = omega (arith, fits (c .before .before .before) .key-most)
+
+payload-start-requires : tie.Need-payload-start-requires
+payload-start-requires c κs = let f = fits (c .before .before .before) in (f .stripes-most, f .key-most)
+
+cast-end : tie.Need-cast-end
+cast-end c = search needs
+
+mul-end : tie.Need-mul-end
+mul-end c = search needs
+
+slice-relend-prefix-clear : tie.Need-slice-relend-prefix-clear
+slice-relend-prefix-clear c = room (c .before)
+
+slice-aggregate-clear : tie.Need-slice-aggregate-clear
+slice-aggregate-clear c = sym (length-take-le _ _ (room (c .before .before)))
+
+clear-requires : tie.Need-clear-requires
+clear-requires c κs = search needs
+
+header-of-requires : tie.Need-header-of-requires
+header-of-requires c κs = let f = fits (c .before .before .before .before .before .before .before .before .before) in (f .profile-known, f .stripes-most, f .key-most, f .count-least, f .uuid-is)
+
+slice-aggregate-copy-into : tie.Need-slice-aggregate-copy-into
+slice-aggregate-copy-into c = search needs
+
+copy-into-requires : tie.Need-copy-into-requires
+copy-into-requires c κs = omega (arith, fits (c .before .before .before .before .before .before .before .before .before .before .before .before) .size)
+
+same-length : tie.Need-same-length
+same-length c = search needs
+
+returns : tie.Need-returns
+returns c =
+    let w = c .before .before in
+    let h = w .before .before .before in
+    let e = h .before .before .before in
+    let p = e .before .before .before in
+    let z = p .before .before .before .before in
+    let a = z .args in
+    drive-written (a .image .now) (a .profile) (a .stripes) (a .key .now) (a .salt .now) (a .count) (a .uuid .now) (fits z)
+    (p .payload-start .result .0) (e .clear .last .0) _ _ (p .payload-start .ensures .0) (e .clear .ensures) (h .header-of .ensures) (w .copy-into .ensures)
+
+pub write-drive-spec : {M : Type 1} → statement M
+write-drive-spec =
+    tie.close
+    (tie.spec
+    cast-payload-start
+    payload-start-requires
+    cast-end
+    mul-end
+    slice-relend-prefix-clear
+    slice-aggregate-clear
+    clear-requires
+    header-of-requires
+    slice-aggregate-copy-into
+    copy-into-requires
+    same-length
+    returns)

@@ -1,0 +1,81 @@
+// Format: the checks in order, then everything before the payload cleared and the header written.
+pub mod checks;
+pub mod fields;
+
+use header::Refusal;
+ghost use mathlib.Core.Path.{_≡_};
+ghost use mathlib.Core.Bool.{true};
+ghost use Prim.Native.Nat.{_≤_};
+ghost use lib.ListN.{length};
+ghost use Rattle.suite.specs.Suite.{Suite};
+ghost use Rattle.rules.specs.Checks.{first};
+ghost use Rattle.rules.specs.Profiles.{known, profileAt};
+ghost use Rattle.rules.specs.Table.{profilesWith};
+ghost use Rattle.rules.specs.Format.{formatChecks, headerOf, formatted, format};
+ghost use Rattle.header.specs.Refusals.{number};
+ghost use Rattle.built.specs.Built.{built};
+ghost use Rattle.formatting.specs.Input.{formatInput};
+
+// The header of a new drive.
+fn header_of(
+    profile: u8,
+    stripes: u32,
+    key: &[u8],
+    salt: &[u8; 32],
+    count: u32,
+    uuid: &[u8],
+) -> [u8; 592]
+    requires { ⌜ ((S : Suite) → known (profilesWith S) profile ≡ true) × (stripes ≤ 4000) × (length (now key) ≤ 64) × (1 ≤ count) × (length (now uuid) ≡ 36) ⌝ }
+    ensures { λ r. ⌜ r ≡ headerOf (profileAt built profile) (formatInput profile stripes (now (key .entry)) (now (salt .entry)) count (now (uuid .entry))) ⌝ }
+{
+    let p = header::profiles::profile_at(profile);
+    let mut sum = [0u8; 20];
+    pbkdf2::pbkdf2_sha1(&mut sum, key, salt, count);
+    let mut h = [0u8; 592];
+    crate::fields::put_names(&mut h, p);
+    crate::fields::put_numbers(&mut h, stripes, p.key_bytes, &sum, salt, count, uuid);
+    crate::fields::put_slots(&mut h, stripes, p.key_bytes);
+    h
+}
+
+// Clears everything before the payload, then writes the header.
+fn write_drive(
+    image: &mut [u8],
+    profile: u8,
+    stripes: u32,
+    key: &[u8],
+    salt: &[u8; 32],
+    count: u32,
+    uuid: &[u8],
+)
+    requires { ⌜ first (formatChecks built (formatInput profile stripes (now key) (now salt) count (now uuid)) (now image)) ≡ 0 ⌝ }
+    ensures { λ _. ⌜ now (image .exit) ≡ formatted built (formatInput profile stripes (now (key .entry)) (now (salt .entry)) count (now (uuid .entry))) (now (image .entry)) ⌝ }
+{
+    let payload = header::layout::payload_start(stripes, key.len() as u32);
+    let end = payload.0 as usize * 512;
+    octets::clear(&mut image[..end]);
+    let h = header_of(profile, stripes, key, salt, count, uuid);
+    octets::copy_into(image, 0, &h);
+}
+
+// Formats an image: a drive with this key and eight disabled slots, whose payload keeps its bytes.
+// The contract rules out a format that accepts and writes nothing, and one that turns all away.
+pub fn format(
+    image: &mut [u8],
+    profile: u8,
+    stripes: u32,
+    key: &[u8],
+    salt: &[u8; 32],
+    count: u32,
+    uuid: &[u8],
+) -> Refusal
+    ensures code { λ r. ⌜ number r ≡ format built (formatInput profile stripes (now (key .entry)) (now (salt .entry)) count (now (uuid .entry))) (now (image .entry)) .code ⌝ }
+    ensures image { λ _. ⌜ now (image .exit) ≡ format built (formatInput profile stripes (now (key .entry)) (now (salt .entry)) count (now (uuid .entry))) (now (image .entry)) .image ⌝ }
+{
+    let r = crate::checks::format_check(image, profile, stripes, key, count, uuid);
+    if header::number_of(r) != 0 {
+        return r;
+    }
+    write_drive(image, profile, stripes, key, salt, count, uuid);
+    r
+}

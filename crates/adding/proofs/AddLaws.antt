@@ -11,7 +11,7 @@ use lib.Seq.{drop-drop}
 use borrow.Author.Tests.{eq-eqb, ne-eqb, eqb-true, leb-true}
 use Rattle.octets.specs.Octets.{quadAt, bigEndian}
 use Rattle.octets.specs.Splice.{slice, splice}
-use Rattle.octets.proofs.BoolLaws.{and-split, or-yes}
+use Rattle.octets.proofs.BoolLaws.{or-yes}
 use Rattle.suite.specs.Suite.{Suite}
 use Rattle.rules.specs.Checks.{Check, first}
 use Rattle.rules.specs.Profiles.{Profile, fits, numberOf, noProfile, profileAt, known}
@@ -28,7 +28,7 @@ use Rattle.header.specs.Records.{IsProfile}
 use Rattle.header.specs.Layout.{slotIn}
 use Rattle.header.proofs.SoundLaws.{Sound, SlotSound, sound}
 use Rattle.keyslot.specs.Keyslot.{slotInput}
-use Rattle.header.proofs.ArgumentLaws.{number-in}
+use Rattle.header.proofs.ArgumentLaws.{number-in, passphrase-in}
 
 -- ---- the profile's smallest count
 
@@ -74,83 +74,90 @@ least-known : (S : Suite) (n : ℕ) → known (profilesWith S) n ≡ true → 1 
 unfolding known profilesWith profileAt aesXtsRow
 least-known S n h = least-row S (eqb 1 n) (eqb 2 n) h
 
-count-least : (image : List ℕ) → first (headerChecks built image) ≡ 0 → 1 ≤ factsOf built image .profile .minSlotCount
-unfolding factsOf
-count-least image ok = least-known aesXtsSha1 (profileIn built image) (known-profileIn built image (sound aesXtsSha1 image ok .found))
+pub count-in : (image : List ℕ) → first (headerChecks built image) ≡ 0 → (count : ℕ) → countOk (factsOf built image) count ≡ true → 1 ≤ count
+unfolding countOk factsOf
+count-in image ok count e =
+    let m = least-known aesXtsSha1 (profileIn built image) (known-profileIn built image (sound aesXtsSha1 image ok .found)) in
+    omega (arith, m, leb-true _ count e)
+
+-- ---- lengths and slots, read off an image whose header is accepted
+
+module _ (image : List ℕ) (ok : first (headerChecks built image) ≡ 0) where
+  abbrev facts : Facts
+  facts = factsOf built image
+
+  pub key-is : (key : List ℕ) → keyOk facts key ≡ eqb (length key) (quadAt image 108)
+  unfolding keyOk
+  key-is key = ap (eqb (length key)) (sound aesXtsSha1 image ok .row .key-is)
+
+  module _ (slot : ℕ) (h : slotNumberOk slot ≡ true) where
+    pub slot-is : slotOf facts slot ≡ slotIn image (slot - 1)
+    slot-is = let r = number-in slot h in slotOf-image built image slot (r .0) (r .1)
+
+    pub random-is : (random : List ℕ) → randomOk facts slot random ≡ eqb (length random) ((slotIn image (slot - 1) .stripes - 1) * quadAt image 108)
+    unfolding randomOk
+    random-is random = ap₂ (λ (s : SlotFacts) (L : ℕ). eqb (length random) ((s .stripes - 1) * L)) slot-is (sound aesXtsSha1 image ok .row .key-is)
 
 -- ---- the checks, one law for each way out
 
 module _ (image : List ℕ) (ok : first (headerChecks built image) ≡ 0) (slot : ℕ) (key passphrase salt : List ℕ) (count : ℕ) (random : List ℕ) where
-  abbrev facts : Facts
-  facts = factsOf built image
-
-  abbrev pub all : List Check
-  all = checks facts (add slot key (slotInput passphrase salt count random))
+  abbrev all : List Check
+  all = checks (factsOf built image) (add slot key (slotInput passphrase salt count random))
 
   pub bad-slot : slotNumberOk slot ≡ false → 13 ≡ first all
   unfolding checks first
   bad-slot h = rw h
 
   module _ (h : slotNumberOk slot ≡ true) where
-    slot-is : slotOf facts slot ≡ slotIn image (slot - 1)
-    slot-is = let r = number-in slot h in slotOf-image built image slot (r .0) (r .1)
-
-    key-is : keyOk facts key ≡ eqb (length key) (quadAt image 108)
-    unfolding keyOk
-    key-is = ap (eqb (length key)) (sound aesXtsSha1 image ok .row .key-is)
-
-    random-is : randomOk facts slot random ≡ eqb (length random) ((slotIn image (slot - 1) .stripes - 1) * quadAt image 108)
-    unfolding randomOk
-    random-is = ap₂ (λ (s : SlotFacts) (L : ℕ). eqb (length random) ((s .stripes - 1) * L)) slot-is (sound aesXtsSha1 image ok .row .key-is)
+    own-slot : slotOf (factsOf built image) slot ≡ slotIn image (slot - 1)
+    own-slot = slot-is image ok slot h
 
     pub in-use : isEnabled (slotIn image (slot - 1)) ≡ true → 15 ≡ first all
     unfolding checks first
-    in-use e = rw (h, slot-is, e)
+    in-use e = rw (h, own-slot, e)
 
     module _ (free : isEnabled (slotIn image (slot - 1)) ≡ false) where
       pub bad-key : length key ≢ quadAt image 108 → 9 ≡ first all
       unfolding checks first
-      bad-key e = rw (h, slot-is, free, key-is, ne-eqb _ _ e)
+      bad-key e = rw (h, own-slot, free, key-is image ok key, ne-eqb _ _ e)
 
       module _ (l : length key ≡ quadAt image 108) where
         pub bad-passphrase : passphraseOk passphrase ≡ false → 14 ≡ first all
         unfolding checks first
-        bad-passphrase e = rw (h, slot-is, free, key-is, eq-eqb _ _ l, e)
+        bad-passphrase e = rw (h, own-slot, free, key-is image ok key, eq-eqb _ _ l, e)
 
         module _ (p : passphraseOk passphrase ≡ true) where
-          pub low-count : countOk facts count ≡ false → 10 ≡ first all
+          pub low-count : countOk (factsOf built image) count ≡ false → 10 ≡ first all
           unfolding checks first
-          low-count e = rw (h, slot-is, free, key-is, eq-eqb _ _ l, p, e)
+          low-count e = rw (h, own-slot, free, key-is image ok key, eq-eqb _ _ l, p, e)
 
-          module _ (c : countOk facts count ≡ true) where
+          module _ (c : countOk (factsOf built image) count ≡ true) where
             pub bad-random : length random ≢ (slotIn image (slot - 1) .stripes - 1) * quadAt image 108 → 16 ≡ first all
             unfolding checks first
-            bad-random e = rw (h, slot-is, free, key-is, eq-eqb _ _ l, p, c, random-is, ne-eqb _ _ e)
+            bad-random e = rw (h, own-slot, free, key-is image ok key, eq-eqb _ _ l, p, c, random-is image ok slot h random, ne-eqb _ _ e)
 
             module _ (r : length random ≡ (slotIn image (slot - 1) .stripes - 1) * quadAt image 108) where
-              pub wrong-key : matches facts key ≡ false → 17 ≡ first all
+              pub wrong-key : matches (factsOf built image) key ≡ false → 17 ≡ first all
               unfolding checks first
-              wrong-key e = rw (h, slot-is, free, key-is, eq-eqb _ _ l, p, c, random-is, eq-eqb _ _ r, e)
+              wrong-key e = rw (h, own-slot, free, key-is image ok key, eq-eqb _ _ l, p, c, random-is image ok slot h random, eq-eqb _ _ r, e)
 
-              pub all-hold : matches facts key ≡ true → 0 ≡ first all
+              pub all-hold : matches (factsOf built image) key ≡ true → 0 ≡ first all
               unfolding checks first
-              all-hold e = rw (h, slot-is, free, key-is, eq-eqb _ _ l, p, c, random-is, eq-eqb _ _ r, e)
+              all-hold e = rw (h, own-slot, free, key-is image ok key, eq-eqb _ _ l, p, c, random-is image ok slot h random, eq-eqb _ _ r, e)
 
   -- what an accepted call's arguments are
   pub room : first all ≡ 0 → (1 ≤ slot) × (slot ≤ 8) × (length key ≡ quadAt image 108) × (length passphrase ≤ 512) × (1 ≤ count)
       × (length random ≡ (slotIn image (slot - 1) .stripes - 1) * quadAt image 108)
-  unfolding checks passphraseOk countOk
+  unfolding checks
   room e =
       let p = accepted all refl e in
-      let n = number-in slot (p .0) in
-      let w = and-split (leb 1 (length passphrase)) (leb (length passphrase) 512) (p .1 .1 .1 .0) in
-      let c : facts .profile .minSlotCount ≤ count = leb-true _ _ (p .1 .1 .1 .1 .0) in (
+      let n = number-in slot (p .0) in (
         n .0,
         n .1,
-        eqb-true _ _ (sym (key-is (p .0)) ∙ p .1 .1 .0),
-        leb-true (length passphrase) 512 (w .1),
-        omega (arith, c, count-least image ok),
-        eqb-true _ _ (sym (random-is (p .0)) ∙ p .1 .1 .1 .1 .1 .0),
+        eqb-true _ _ (sym (key-is image ok key) ∙ p .1 .1 .0),
+        passphrase-in passphrase (p .1 .1 .1 .0) .1,
+        count-in image ok count (p .1 .1 .1 .1 .0),
+        eqb-true _ _ (sym (random-is image ok slot (p .0) random) ∙ p .1 .1 .1 .1 .1 .0),
       )
 
 -- ---- what is written

@@ -1,4 +1,4 @@
--- `adding::add_check` meets its contract.
+-- `adding::add_check` meets its contract: what each test has shown stands as a fact of its place, and each way out names the facts before it.
 use mathlib.Core.Path.{_≡_, sym, ap₂, _∙_}
 use mathlib.Core.Bool.{true, false}
 use Prim.Native.Nat.{ℕ, _-_, _*_, _≤_}

@@ -1,4 +1,4 @@
--- `adding::enable_slot` meets its contract.
+-- `adding::enable_slot` meets its contract: the area, lent and given back, is a splice of the image, and the head a second one.
 use mathlib.Core.Path.{_≡_, sym, ap, ap₂, _∙_}
 use mathlib.Core.List.{_++_}
 use Prim.Native.Nat.{_+_, _-_, _*_, _≤_}

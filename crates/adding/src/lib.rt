@@ -100,8 +100,7 @@ fn add_check(
 }
 
 // Adds a passphrase for the master key: the slot's area is filled, its record enabled with this salt and count.
-// Two programs that the contract rules out: one that accepts and enables the record but leaves the area as it was, and
-// one that says 17 to every key.
+// The contract rules out an add that is accepted and writes nothing, and one that says 17 to every key.
 pub fn add(
     image: &mut [u8],
     slot: u8,

@@ -104,6 +104,7 @@ fn open_slot_check(image: &[u8], slot: u8, passphrase: &[u8]) -> Refusal
 }
 
 // Opens a slot by its number.
+// The contract rules out an opening that says 17 and tries nothing, and one that judges the slot by another's state.
 pub fn open_slot(image: &[u8], slot: u8, passphrase: &[u8]) -> Opened
     ensures { λ o. ⌜ IsAnswer o (step built (now (image .entry)) (openSlot slot (now (passphrase .entry))) .said) ⌝ }
 {
@@ -150,6 +151,7 @@ fn find_slot(image: &[u8], passphrase: &[u8]) -> Search
 }
 
 // Opens the first slot that the passphrase opens.
+// The contract rules out a search that leaves slot 8 out, and one that answers with a fixed key.
 pub fn open(image: &[u8], passphrase: &[u8]) -> Opened
     ensures { λ o. ⌜ IsAnswer o (step built (now (image .entry)) (openAny (now (passphrase .entry))) .said) ⌝ }
 {

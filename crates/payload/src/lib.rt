@@ -113,7 +113,7 @@ pub fn read(image: &[u8], key: &[u8], first: PayloadUnit, units: u64, buffer: &m
         return h;
     }
     let r = range_check(image, key, first, units, buffer);
-    if header::number_of(r) != 0 {
+    if header::number_of(r) != 0 { // refused: the buffer stays as it was
         return r;
     }
     read_units(buffer, image, key, first, units);
@@ -130,7 +130,7 @@ pub fn write(image: &mut [u8], key: &[u8], first: PayloadUnit, units: u64, buffe
         return h;
     }
     let r = range_check(image, key, first, units, buffer);
-    if header::number_of(r) != 0 {
+    if header::number_of(r) != 0 { // refused: the image stays as it was
         return r;
     }
     write_units(image, key, first, units, buffer);

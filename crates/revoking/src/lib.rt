@@ -89,6 +89,7 @@ fn revoke_check(image: &[u8], slot: u8, filler: &[u8]) -> Refusal
 }
 
 // Revokes a slot: its area is filled, its record disabled, its start and stripes stay.
+// The contract rules out a revoke that clears the record's start, and one that revokes the last slot.
 pub fn revoke(image: &mut [u8], slot: u8, filler: &[u8]) -> Refusal
     ensures { λ r. ⌜ (number r ≡ step built (now (image .entry)) (revoke slot (now (filler .entry))) .said .code) × (now (image .exit) ≡ step built (now (image .entry)) (revoke slot (now (filler .entry))) .image) ⌝ }
 {

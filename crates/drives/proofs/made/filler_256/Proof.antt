@@ -1,0 +1,10 @@
+-- `drives::made::filler_256` meets its contract.
+use Rattle.drives.proofs.MadeLaws.{zeros-length}
+use Rattle.drives.proofs.made.filler_256.Statement.{statement}
+use Rattle.drives.proofs.made.filler_256.Tie as tie
+
+returns : tie.Need-returns
+returns c = zeros-length 128000
+
+pub filler-256-spec : {M : Type 1} → statement M
+filler-256-spec = tie.close (tie.spec returns)

@@ -1,0 +1,10 @@
+-- `drives::made::random_512` meets its contract.
+use Rattle.drives.proofs.MadeLaws.{zeros-length}
+use Rattle.drives.proofs.made.random_512.Statement.{statement}
+use Rattle.drives.proofs.made.random_512.Tie as tie
+
+returns : tie.Need-returns
+returns c = zeros-length 255936
+
+pub random-512-spec : {M : Type 1} → statement M
+random-512-spec = tie.close (tie.spec returns)

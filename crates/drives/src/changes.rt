@@ -1,0 +1,142 @@
+// Slots revoked and added on the image in memory.
+use crate::damage;
+use crate::openings;
+use crate::report;
+
+fn revokes(image: &mut [u8], drive: &[u8], what: &[u8], slot: u8, filler: &[u8], number: u8) {
+    let r = revoking::revoke(image, slot, filler);
+    report::slot_line(drive, slot, what, header::number_of(r) == number);
+}
+
+// Is the area that begins at this sector the filler?
+fn area_is(image: &[u8], sector: u32, filler: &[u8]) -> bool {
+    let at = sector as usize * 512;
+    if image.len() < at {
+        return false;
+    }
+    if image.len() - at < filler.len() {
+        return false;
+    }
+    let end = at + filler.len();
+    octets::equal(&image[at..end], filler)
+}
+
+pub fn revoking_one(image: &mut [u8], drive: &[u8], filler: &[u8]) {
+    revokes(
+        image,
+        drive,
+        b"is free and is not revoked (15)",
+        3,
+        filler,
+        15,
+    );
+    revokes(
+        image,
+        drive,
+        b"is not revoked with short filler (16)",
+        2,
+        b"short",
+        16,
+    );
+    revokes(image, drive, b"is revoked", 2, filler, 0);
+}
+
+// Slot 2 was revoked; the field at 296 is its area's start.
+pub fn after_revoking(drive: &[u8], image: &[u8], key: &[u8], filler: &[u8]) {
+    let filled = area_is(image, damage::quad_at(image, 296), filler);
+    report::slot_line(drive, 2, b"holds the filler", filled);
+    openings::refused_by_number(
+        drive,
+        b"is disabled (15)",
+        image,
+        2,
+        b"second passphrase",
+        15,
+    );
+    openings::refused_by_search(
+        drive,
+        b"search refuses slot 2's passphrase (17)",
+        image,
+        b"second passphrase",
+        17,
+    );
+    openings::opens(drive, image, 1, b"first passphrase", key);
+}
+
+// Adds a passphrase of ours, with a count of 1,000.
+fn adds(
+    image: &mut [u8],
+    drive: &[u8],
+    what: &[u8],
+    slot: u8,
+    key: &[u8],
+    random: &[u8],
+    number: u8,
+) {
+    let salt = [0x73u8; 32];
+    let r = adding::add(image, slot, key, b"a new passphrase", &salt, 1000, random);
+    report::slot_line(drive, slot, what, header::number_of(r) == number);
+}
+
+// Slot 7, whose record lies across a sector's edge, is added; the wrong key has the volume key's length.
+pub fn adding_one(image: &mut [u8], drive: &[u8], key: &[u8], wrong: &[u8], random: &[u8]) {
+    adds(
+        image,
+        drive,
+        b"is in use and is not added (15)",
+        8,
+        key,
+        random,
+        15,
+    );
+    adds(
+        image,
+        drive,
+        b"is not added with few random bytes (16)",
+        7,
+        key,
+        b"few",
+        16,
+    );
+    adds(
+        image,
+        drive,
+        b"is not added with a wrong key (17)",
+        7,
+        wrong,
+        random,
+        17,
+    );
+    adds(image, drive, b"is added", 7, key, random, 0);
+}
+
+pub fn after_adding(drive: &[u8], image: &[u8], key: &[u8]) {
+    openings::opens(drive, image, 7, b"a new passphrase", key);
+    openings::opens(drive, image, 1, b"first passphrase", key);
+}
+
+// All slots of cryptsetup's are revoked: slot 7 of ours is left, and stays.
+pub fn leaving_one(image: &mut [u8], drive: &[u8], filler: &[u8]) {
+    revokes(image, drive, b"is revoked", 1, filler, 0);
+    revokes(image, drive, b"is revoked", 4, filler, 0);
+    revokes(image, drive, b"is revoked", 8, filler, 0);
+    revokes(
+        image,
+        drive,
+        b"is the last and is not revoked (18)",
+        7,
+        filler,
+        18,
+    );
+}
+
+pub fn after_leaving(drive: &[u8], image: &[u8], key: &[u8]) {
+    openings::refused_by_search(
+        drive,
+        b"search refuses slot 8's passphrase (17)",
+        image,
+        b"8",
+        17,
+    );
+    openings::opens(drive, image, 7, b"a new passphrase", key);
+}

@@ -1,0 +1,57 @@
+// Bytes that are made and not stored: the volume key, the payload's plaintext, filler and random stripes; and room for them and for a drive.
+ghost use mathlib.Core.Path.{_≡_};
+ghost use Prim.Native.Nat.{_<_};
+ghost use lib.ListN.{length};
+
+// Fills s with first, first + by, first + 2 by, .. modulo 251, so that no two units are alike.
+pub fn sequence(s: &mut [u8], first: u8, by: u8)
+    requires { ⌜ first < 251 ⌝ }
+{
+    let mut value = first as u32;
+    let mut i: usize = 0;
+    while i < s.len() {
+        s[i] = (value % 256) as u8;
+        value = (value + by as u32) % 251;
+        i += 1;
+    }
+}
+
+// Room for the drive with 256-bit keys: 2,056 sectors before the payload, and 8 units.
+pub fn image_256() -> [u8; 1056768]
+    ensures { λ r. ⌜ 1056768 ≡ length r ⌝ }
+{
+    [0; 1056768]
+}
+
+// Room for the drive with 512-bit keys: 4,040 sectors and 8 units.
+pub fn image_512() -> [u8; 2072576]
+    ensures { λ r. ⌜ 2072576 ≡ length r ⌝ }
+{
+    [0; 2072576]
+}
+
+// Room for an area, 4,000 stripes.
+pub fn filler_256() -> [u8; 128000]
+    ensures { λ r. ⌜ 128000 ≡ length r ⌝ }
+{
+    [0; 128000]
+}
+
+pub fn filler_512() -> [u8; 256000]
+    ensures { λ r. ⌜ 256000 ≡ length r ⌝ }
+{
+    [0; 256000]
+}
+
+// Room for the random stripes of an area, 3,999.
+pub fn random_256() -> [u8; 127968]
+    ensures { λ r. ⌜ 127968 ≡ length r ⌝ }
+{
+    [0; 127968]
+}
+
+pub fn random_512() -> [u8; 255936]
+    ensures { λ r. ⌜ 255936 ≡ length r ⌝ }
+{
+    [0; 255936]
+}

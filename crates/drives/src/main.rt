@@ -1,0 +1,99 @@
+// Drives made by cryptsetup, opened, read, damaged and changed in memory: one line for each thing tried, and ok or FAILED.
+// tools/make_drives.sh made them.
+mod changes;
+mod damage;
+mod made;
+mod openings;
+mod payloads;
+mod report;
+
+// Fills the image from the file, which has exactly as many bytes.
+fn load(image: &mut [u8], drive: &[u8], name: &[u8]) {
+    let fd = os::open_read(name);
+    let mut more = [0u8; 1];
+    let n = io::read_full(fd, image);
+    let rest = io::read_full(fd, &mut more);
+    libc::close(fd);
+    report::line(drive, b"is read whole", n == image.len() && rest == 0);
+}
+
+fn as_it_is(image: &[u8], drive: &[u8], key: &[u8], wrong: &[u8]) {
+    openings::filled_slots(drive, image, key);
+    openings::wrong_passphrases(drive, image);
+    openings::wrong_slots(drive, image);
+    payloads::whole(drive, image, key);
+    payloads::parts(drive, image, key);
+    payloads::refusals(drive, image, key, wrong);
+}
+
+fn damaged(image: &mut [u8], drive: &[u8]) {
+    damage::start_of_header(image, drive);
+    damage::names(image, drive);
+    damage::numbers(image, drive);
+}
+
+fn damaged_further(image: &mut [u8], drive: &[u8]) {
+    damage::records(image, drive);
+    damage::areas(image, drive);
+    damage::lengths(image, drive);
+}
+
+fn changed(image: &mut [u8], drive: &[u8], key: &[u8], wrong: &[u8], filler: &[u8], random: &[u8]) {
+    changes::revoking_one(image, drive, filler);
+    changes::after_revoking(drive, image, key, filler);
+    changes::adding_one(image, drive, key, wrong, random);
+    changes::after_adding(drive, image, key);
+    changes::leaving_one(image, drive, filler);
+    changes::after_leaving(drive, image, key);
+}
+
+// The payload is as it was before the changes.
+fn written(image: &mut [u8], drive: &[u8], key: &[u8]) {
+    payloads::whole(drive, image, key);
+    payloads::writes(image, drive, key);
+    payloads::whole(drive, image, key);
+}
+
+// What is tried of a drive. The volume key is the bytes 0, 1, 2, ..; the wrong key is as long.
+fn tried(image: &mut [u8], drive: &[u8], key: &[u8], wrong: &[u8], filler: &[u8], random: &[u8]) {
+    as_it_is(image, drive, key, wrong);
+    damaged(image, drive);
+    damaged_further(image, drive);
+    changed(image, drive, key, wrong, filler, random);
+    written(image, drive, key);
+}
+
+// Fills the key, the wrong key, the filler and the random stripes.
+fn fill(key: &mut [u8], wrong: &mut [u8], filler: &mut [u8], random: &mut [u8]) {
+    made::sequence(key, 0, 1);
+    made::sequence(wrong, 1, 1);
+    made::sequence(filler, 5, 11);
+    made::sequence(random, 3, 13);
+}
+
+fn drive_256() {
+    let mut image = made::image_256();
+    let mut key = [0u8; 32];
+    let mut wrong = [0u8; 32];
+    let mut filler = made::filler_256();
+    let mut random = made::random_256();
+    load(&mut image, b"256-bit drive", b"luks1-256.img");
+    fill(&mut key, &mut wrong, &mut filler, &mut random);
+    tried(&mut image, b"256-bit drive", &key, &wrong, &filler, &random);
+}
+
+fn drive_512() {
+    let mut image = made::image_512();
+    let mut key = [0u8; 64];
+    let mut wrong = [0u8; 64];
+    let mut filler = made::filler_512();
+    let mut random = made::random_512();
+    load(&mut image, b"512-bit drive", b"luks1-512.img");
+    fill(&mut key, &mut wrong, &mut filler, &mut random);
+    tried(&mut image, b"512-bit drive", &key, &wrong, &filler, &random);
+}
+
+fn main() {
+    drive_256();
+    drive_512();
+}

@@ -8,6 +8,7 @@ use Rattle.suite.specs.Suite.{Suite}
 use Rattle.rules.specs.Profiles.{Profile}
 use Rattle.rules.specs.Table.{profilesWith}
 
+-- HMAC-SHA-1 in PBKDF2, AES-XTS, and H over SHA-1
 unfoldable pub aesXtsSha1 : Suite
 aesXtsSha1 = record { derive = pbkdf2 sha1; encipher = xtsEncrypt; decipher = xtsDecrypt; diffuse = diffuse sha1 }
 

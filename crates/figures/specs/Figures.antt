@@ -21,6 +21,7 @@ pub record Plain (a : FormatInput) : Type 0 where
   pub uuid-long : length (a .uuid) ≡ 36
   pub uuid-printable : printable (a .uuid) ≡ true
 
+-- the one table
 pub record Figures : Type 0 where
   -- "L 32, n 4,000: 251 sectors; starts 8, 264, 520, 776, 1,032, 1,288, 1,544, 1,800; payload 2,051"
   pub sectors-32 : areaSectors 4000 32 ≡ 251

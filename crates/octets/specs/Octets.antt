@@ -17,6 +17,7 @@ pub record Str (n : ℕ) (x : List ℕ) : Type 0 where
   pub len : length x ≡ n
   pub byte : Bytes x
 
+-- n zero bytes
 unfoldable pub zeros : ℕ → List ℕ
 zeros n = replicate n 0
 
@@ -50,6 +51,7 @@ xors (x ∷ xs) (y ∷ ys) = (x ⊕ y) ∷ xors xs ys
 
 -- ---- equality as a test
 
+-- the strings are equal
 unfoldable pub same : List ℕ → List ℕ → Bool
 same [] [] = true
 same [] (y ∷ ys) = false

@@ -21,5 +21,6 @@ unfoldable pub aesXtsRow : Suite → ℕ → ℕ → Profile
 aesXtsRow S number keyBytes =
     record { number = number; cipher = aes; mode = xtsPlain64; hash = sha1; keyBytes = keyBytes; minSlotCount = 1000; minSumCount = 1000; suite = S }
 
+-- profiles 1 and 2
 unfoldable pub profilesWith : Suite → List Profile
 profilesWith S = aesXtsRow S 1 32 ∷ aesXtsRow S 2 64 ∷ []

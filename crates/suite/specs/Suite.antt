@@ -4,6 +4,7 @@ use mathlib.Core.List.{List}
 use Prim.Native.Nat.{ℕ, _%_, _≤_}
 use Rattle.octets.specs.Octets.{Str}
 
+-- 01, "Ciphers and hashes" and "The splitter"
 pub record Suite : Type 0 where
   pub derive : List ℕ → List ℕ → ℕ → ℕ → List ℕ  -- PBKDF2: password, salt, count, length
   pub encipher : List ℕ → ℕ → List ℕ → List ℕ  -- key, unit number, data unit

@@ -34,11 +34,14 @@ abbrev pub cipherOf : Bool → ℕ → List ℕ → List ℕ → List ℕ
 cipherOf true = cipher
 cipherOf false = invCipher
 
+-- the data unit s with the number u, under an expanded key
 unfoldable pub unitRun : Bool → Keys → ℕ → List ℕ → List ℕ
 unitRun forward k u s = dataUnit (cipherOf forward (k .rounds) (k .blocks)) (cipher (k .rounds) (k .tweaks)) u s
 
+-- enciphered
 abbrev pub unitEncrypt : Keys → ℕ → List ℕ → List ℕ
 unitEncrypt = unitRun true
 
+-- deciphered
 abbrev pub unitDecrypt : Keys → ℕ → List ℕ → List ℕ
 unitDecrypt = unitRun false

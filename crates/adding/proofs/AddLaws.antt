@@ -1,13 +1,12 @@
 -- Laws for add: its checks one by one, what an accepted call's arguments are, and what it writes.
 use mathlib.Core.Path.{_≡_, refl, sym, ap, ap₂, _∙_}
 use mathlib.Core.Logic.{_≢_}
-use mathlib.Core.List.{List, [], _∷_, _++_, append-nil}
+use mathlib.Core.List.{List, [], _∷_, append-nil}
 use mathlib.Core.Bool.{Bool, true, false, _||_, cond}
 use Prim.Native.Nat.{ℕ, _+_, _-_, _*_, _≤_}
 use native.Mathlib.Omega.{arith}
 use lib.Dec.{eqb, leb, ltb}
-use lib.ListN.{length, take, drop, replicate}
-use lib.Seq.{drop-drop}
+use lib.ListN.{length, replicate}
 use borrow.Author.Tests.{eq-eqb, ne-eqb, eqb-true, leb-true}
 use Rattle.octets.specs.Octets.{quadAt, bigEndian}
 use Rattle.octets.specs.Splice.{slice, splice}
@@ -28,7 +27,7 @@ use Rattle.header.specs.Records.{IsProfile}
 use Rattle.header.specs.Layout.{slotIn}
 use Rattle.header.proofs.SoundLaws.{Sound, SlotSound, sound}
 use Rattle.keyslot.specs.Keyslot.{slotInput}
-use Rattle.header.proofs.ArgumentLaws.{number-in, passphrase-in}
+use Rattle.rules.proofs.ArgumentLaws.{number-in, passphrase-in}
 
 -- ---- the profile's smallest count
 
@@ -166,13 +165,6 @@ pub head-is : (h salt : List ℕ) (count : ℕ) → length salt ≡ 32
     → h ≡ splice (splice (splice (replicate 40 0) 0 (bigEndian 4 enabled)) 4 (bigEndian 4 count)) 8 salt → h ≡ recordHead enabled count salt
 unfolding splice recordHead bigEndian
 head-is h salt count l e = e ∙ rw (l, append-nil salt)
-
--- a part, from a to e, that was lent and given back as y
-pub splice-part : (l y : List ℕ) (a e : ℕ) → a ≤ e → length y ≡ e - a → take a l ++ (y ++ drop (e - a) (drop a l)) ≡ splice l a y
-unfolding splice
-splice-part l y a e h n =
-    let m : a + (e - a) ≡ a + length y = omega arith in
-    ap (λ (z : List ℕ). take a l ++ (y ++ z)) (drop-drop (e - a) a l ∙ ap (λ (k : ℕ). drop k l) m)
 
 -- the area of slot k, from 0, is inside the image
 pub area-room : (image : List ℕ) (k : ℕ) → Sound aesXtsSha1 image → SlotSound image k → (start n L : ℕ) → start ≡ slotIn image k .start → n ≡ slotIn image k .stripes

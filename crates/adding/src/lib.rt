@@ -38,6 +38,7 @@ fn enabled_head(count: u32, salt: &[u8; 32]) -> [u8; 40]
 }
 
 // Fills the slot's area with the split and enciphered key, and enables its record.
+// The salt's length stands in the contract for a caller that only passes the salt on.
 pub fn enable_slot(
     image: &mut [u8],
     slot: u8,
@@ -48,7 +49,7 @@ pub fn enable_slot(
     random: &[u8],
 )
     requires { ⌜ (first (headerChecks built (now image)) ≡ 0) × (1 ≤ slot) × (slot ≤ 8) × (length (now key) ≡ quadAt (now image) 108) × (length (now passphrase) ≤ 512) × (1 ≤ count) × (length (now random) ≡ (slotIn (now image) (slot - 1) .stripes - 1) * quadAt (now image) 108) ⌝ }
-    ensures { λ _. ⌜ now (image .exit) ≡ written (enableWrites (factsOf built (now (image .entry))) slot (now (key .entry)) (slotInput (now (passphrase .entry)) (now (salt .entry)) count (now (random .entry)))) (now (image .entry)) ⌝ }
+    ensures { λ _. ⌜ (now (image .exit) ≡ written (enableWrites (factsOf built (now (image .entry))) slot (now (key .entry)) (slotInput (now (passphrase .entry)) (now (salt .entry)) count (now (random .entry)))) (now (image .entry))) × (length (now (salt .entry)) ≡ 32) ⌝ }
 {
     let k = (slot - 1) as usize;
     let s = header::slots::slot_at(image, k);

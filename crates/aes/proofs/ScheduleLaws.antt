@@ -1,16 +1,17 @@
 -- The key schedule: its round constants, a word of it, and the loop that writes it.
 use mathlib.Core.Path.{_≡_, refl, sym, ap, ap₂, _∙_}
-use mathlib.Core.List.{List, [], _∷_, _++_, map, append-assoc}
+use mathlib.Core.List.{List, [], _∷_, _++_, map}
 use Prim.Native.Nat.{ℕ, zero, suc, _+_, _-_, _*_, _/_, _%_, _<_, _≤_}
 use native.Mathlib.Nat.{div-lt-iff-lt-mul, sub-self}
 use native.Mathlib.Omega.{arith}
 use lib.Bits.{bitXor}
-use lib.ListN.{length, getD, take, drop, length-append}
-use lib.Seq.{getD-take, length-take-le, take-at}
+use lib.ListN.{length, getD, take, drop}
+use lib.Seq.{getD-take, length-take-le}
 use borrow.Author.Tests.{eq-eqb, ne-eqb, lt-ltb, le-ltb}
 use Rattle.octets.specs.Octets.{_⊕_, xors, bigEndian}
 use Rattle.octets.specs.Splice.{splice}
 use Rattle.octets.proofs.XorLaws.{⊕-zero}
+use Rattle.octets.proofs.SpliceLaws.{take-splice}
 use Rattle.octets.proofs.TableLaws.{same-below}
 use Rattle.gf256.specs.Field.{xtime, sub}
 use Rattle.gf256.specs.Tables.{sbox}
@@ -101,15 +102,9 @@ unfolding nextWord
 nextWord-take nk i w h k l =
     ap₂ (λ (x y : List ℕ). xors x (temp nk i y)) (take-four-take w ((i - nk) * 4) (i * 4) (omega arith) l) (take-four-take w ((i - 1) * 4) (i * 4) (omega arith) l)
 
-pub take-splice : (w b : List ℕ) (o n : ℕ) → o ≤ length w → o + length b ≡ n → take n (splice w o b) ≡ take o w ++ b
-unfolding splice
-take-splice w b o n h e =
-    ap (take n) (sym (append-assoc (take o w) b (drop (o + length b) w)))
-    ∙ take-at (take o w ++ b) (drop (o + length b) w) n (length-append (take o w) b ∙ ap (λ (m : ℕ). m + length b) (length-take-le o w h) ∙ e)
-
 pub schedule-start : (nk : ℕ) (key z w : List ℕ) → length key ≡ nk * 4 → w ≡ splice z 0 key → take (nk * 4) w ≡ schedule nk key (nk - nk)
 unfolding schedule
-schedule-start nk key z w l e = rw sub-self (ap (take (nk * 4)) e ∙ take-splice z key 0 (nk * 4) (omega arith) (omega arith))
+schedule-start nk key z w l e = rw sub-self (ap (take (nk * 4)) e ∙ ap (λ (n : ℕ). take n (splice z 0 key)) (let n : nk * 4 ≡ 0 + length key = omega arith in n) ∙ take-splice z 0 key (omega arith))
 
 pub schedule-more : (nk i : ℕ) (key w b : List ℕ) → 4 ≤ nk → nk ≤ i → i * 4 + 4 ≤ length w → length b ≡ 4 → b ≡ nextWord nk i w
     → take (i * 4) w ≡ schedule nk key (i - nk) → take ((i + 1) * 4) (splice w (i * 4) b) ≡ schedule nk key (i + 1 - nk)
@@ -117,7 +112,7 @@ unfolding schedule
 schedule-more nk i key w b h k l m e f =
     let n : i + 1 - nk ≡ suc (i - nk) = omega arith in
     let p : nk + (i - nk) ≡ i = omega arith in
-    take-splice w b (i * 4) ((i + 1) * 4) (omega arith) (omega arith)
+    ap (λ (n : ℕ). take n (splice w (i * 4) b)) (let n : (i + 1) * 4 ≡ i * 4 + length b = omega arith in n) ∙ take-splice w (i * 4) b (omega arith)
     ∙ ap₂ _++_ f (e ∙ sym (nextWord-take nk i w h k (omega arith)) ∙ ap (nextWord nk i) f)
     ∙ ap (λ (j : ℕ). schedule nk key (i - nk) ++ nextWord nk j (schedule nk key (i - nk))) (sym p)
     ∙ ap (schedule nk key) (sym n)

@@ -1,4 +1,4 @@
-// Slots revoked and added on the image in memory.
+// Slots revoked, added and changed on the image in memory.
 use crate::damage;
 use crate::openings;
 use crate::report;
@@ -139,4 +139,84 @@ pub fn after_leaving(drive: &[u8], image: &[u8], key: &[u8]) {
         17,
     );
     openings::opens(drive, image, 7, b"a new passphrase", key);
+}
+
+// Changes the passphrase of slot 7 to a new one in the slot, with a count of 1,000.
+fn changes_seven(
+    image: &mut [u8],
+    drive: &[u8],
+    what: &[u8],
+    old: &[u8],
+    to: u8,
+    filler: &[u8],
+    random: &[u8],
+    number: u8,
+) {
+    let salt = [0x6bu8; 32];
+    let r = changing::change(
+        image,
+        7,
+        old,
+        to,
+        b"a newer passphrase",
+        &salt,
+        1000,
+        random,
+        filler,
+    );
+    report::slot_line(drive, 7, what, header::number_of(r) == number);
+}
+
+// Slot 7, the only one left, is changed to slot 3.
+pub fn changing_one(image: &mut [u8], drive: &[u8], filler: &[u8], random: &[u8]) {
+    let old = b"a new passphrase";
+    changes_seven(
+        image,
+        drive,
+        b"is not changed to itself (15)",
+        old,
+        7,
+        filler,
+        random,
+        15,
+    );
+    changes_seven(
+        image,
+        drive,
+        b"is not changed with a wrong passphrase (17)",
+        b"8",
+        3,
+        filler,
+        random,
+        17,
+    );
+    changes_seven(
+        image,
+        drive,
+        b"is changed to slot 3",
+        old,
+        3,
+        filler,
+        random,
+        0,
+    );
+}
+
+pub fn after_changing(drive: &[u8], image: &[u8], key: &[u8]) {
+    openings::refused_by_number(
+        drive,
+        b"is disabled (15)",
+        image,
+        7,
+        b"a new passphrase",
+        15,
+    );
+    openings::refused_by_search(
+        drive,
+        b"search refuses slot 7's passphrase (17)",
+        image,
+        b"a new passphrase",
+        17,
+    );
+    openings::opens(drive, image, 3, b"a newer passphrase", key);
 }

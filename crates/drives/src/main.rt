@@ -43,8 +43,13 @@ fn changed(image: &mut [u8], drive: &[u8], key: &[u8], wrong: &[u8], filler: &[u
     changes::after_revoking(drive, image, key, filler);
     changes::adding_one(image, drive, key, wrong, random);
     changes::after_adding(drive, image, key);
+}
+
+fn changed_further(image: &mut [u8], drive: &[u8], key: &[u8], filler: &[u8], random: &[u8]) {
     changes::leaving_one(image, drive, filler);
     changes::after_leaving(drive, image, key);
+    changes::changing_one(image, drive, filler, random);
+    changes::after_changing(drive, image, key);
 }
 
 // The payload is as it was before the changes.
@@ -60,6 +65,7 @@ fn tried(image: &mut [u8], drive: &[u8], key: &[u8], wrong: &[u8], filler: &[u8]
     damaged(image, drive);
     damaged_further(image, drive);
     changed(image, drive, key, wrong, filler, random);
+    changed_further(image, drive, key, filler, random);
     written(image, drive, key);
 }
 

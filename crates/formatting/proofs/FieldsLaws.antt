@@ -1,44 +1,22 @@
 -- Fields written one behind another come to one string written at once; the header's parts, and its eight records.
 use mathlib.Core.Path.{_≡_, refl, sym, ap, _∙_}
 use mathlib.Core.List.{List, [], _∷_, _++_, map, map-append, append-assoc, append-nil}
-use Prim.Native.Nat.{ℕ, zero, suc, _+_, _-_, _*_, _≤_, _<_}
+use Prim.Native.Nat.{ℕ, _+_, _-_, _*_, _≤_, _<_}
 use native.Mathlib.Numerals.{add-one}
 use native.Mathlib.Omega.{arith}
-use lib.ListN.{length, take, drop, length-append, take-append-drop}
-use lib.Seq.{drop-drop, take-suc, length-take-le}
+use lib.ListN.{length, take, length-append}
+use lib.Seq.{take-suc, length-take-le}
 use Rattle.octets.specs.Octets.{zeros, bigEndian}
 use Rattle.octets.specs.Splice.{splice}
-use Rattle.octets.proofs.OctetsLaws.{length-zeros, length-bigEndian}
-use Rattle.octets.proofs.SpliceLaws.{length-splice, splice-skip, splice-all}
+use Rattle.octets.proofs.OctetsLaws.{length-zeros, drop-zeros, length-bigEndian}
+use Rattle.octets.proofs.SpliceLaws.{length-splice, splice-nil, splice-next, splice-all}
 use Rattle.rules.specs.Layout.{areaStart, slots}
 use Rattle.rules.specs.Facts.{disabled}
 use Rattle.rules.specs.Header.{magic, version}
 use Rattle.rules.specs.Step.{recordHead}
 use Rattle.rules.specs.Format.{padded, concat, slotRecord}
 use Rattle.rules.proofs.StepLaws.{slots-at}
-
--- ---- one string behind another
-
-splice-nil : (l : List ℕ) (o : ℕ) → splice l o [] ≡ l
-unfolding splice
-splice-nil l o = ap (λ (n : ℕ). take o l ++ drop n l) (let e : o + 0 ≡ o = omega arith in e) ∙ take-append-drop o l
-
-pub splice-next : (l : List ℕ) (o : ℕ) (b : List ℕ) (p : ℕ) (c : List ℕ) → p ≡ o + length b → o ≤ length l
-    → splice (splice l o b) p c ≡ splice l o (b ++ c)
-unfolding splice
-splice-next l o b p c e h =
-    let m : ℕ = o + length b in
-    let a : List ℕ = take o l ++ b in
-    let d : List ℕ = drop (o + length (b ++ c)) l in
-    let g : length a ≡ m = length-append (take o l) b ∙ ap (λ (n : ℕ). n + length b) (length-take-le o l h) in
-    let f : p ≡ m + 0 = omega arith in
-    let n : m + (0 + length c) ≡ o + length (b ++ c) = omega (arith, length-append b c) in
-    ap (λ (x : List ℕ). splice x p c) (sym (append-assoc (take o l) b (drop m l)))
-    ∙ ap (λ (k : ℕ). splice (a ++ drop m l) k c) f
-    ∙ splice-skip a (drop m l) c m 0 g
-    ∙ ap (λ (x : List ℕ). a ++ (c ++ x)) (drop-drop (0 + length c) m l ∙ ap (λ (k : ℕ). drop k l) n)
-    ∙ append-assoc (take o l) b (c ++ d)
-    ∙ ap (λ (x : List ℕ). take o l ++ x) (sym (append-assoc b c d))
+use Rattle.rules.proofs.FormatLaws.{concat-append}
 
 -- ---- fields of given widths
 
@@ -69,13 +47,6 @@ in-order l o (f ∷ fs) ws h =
 pub length-joined : (fs : List (ℕ × List ℕ)) → Widths fs → length (joined fs) ≡ width fs
 length-joined [] ws = refl
 length-joined (f ∷ fs) ws = let k : length (joined fs) ≡ width fs = length-joined fs (ws .1) in omega (arith, length-append (f .1) (joined fs), ws .0, k)
-
--- ---- concat
-
-pub concat-append : (xs ys : List (List ℕ)) → concat (xs ++ ys) ≡ concat xs ++ concat ys
-unfolding concat
-concat-append [] ys = refl
-concat-append (x ∷ xs) ys = ap (λ (z : List ℕ). x ++ z) (concat-append xs ys) ∙ sym (append-assoc x (concat xs) (concat ys))
 
 -- ---- the eight records, of 48 bytes each
 
@@ -110,10 +81,6 @@ record-none f l = sym (splice-nil l 208)
 
 -- ---- a slot's record, and the UUID's field
 
-pub length-slotRecord : (n L k : ℕ) → length (slotRecord n L disabled 0 (zeros 32) k) ≡ 48
-unfolding slotRecord recordHead bigEndian zeros
-length-slotRecord n L k = refl
-
 -- one write after another
 after : (o : ℕ) (b x y z : List ℕ) → z ≡ splice y o b → y ≡ x → z ≡ splice x o b
 after o b x y z e f = e ∙ ap (λ (l : List ℕ). splice l o b) f
@@ -127,19 +94,9 @@ pub record-is : (n L k s : ℕ) (r₁ r₂ r₃ : List ℕ) → s ≡ areaStart 
     → r₃ ≡ splice r₂ 44 (bigEndian 4 n) → r₃ ≡ slotRecord n L disabled 0 (zeros 32) k
 record-is n L k s r₁ r₂ r₃ e e₁ e₂ e₃ = after 44 (bigEndian 4 n) _ r₂ r₃ e₃ (after 40 (bigEndian 4 s) _ r₁ r₂ e₂ e₁) ∙ record-writes n L k s e
 
-drop-zeros : (k w : ℕ) → drop k (zeros w) ≡ zeros (w - k)
-unfolding zeros
-drop-zeros zero w = ap zeros (let e : w ≡ w - 0 = omega arith in e)
-drop-zeros (suc k) zero = ap zeros (let e : 0 ≡ 0 - suc k = omega arith in e)
-drop-zeros (suc k) (suc w) = drop-zeros k w ∙ ap zeros (let e : w - k ≡ suc w - suc k = omega arith in e)
-
 pub splice-padded : (w : ℕ) (x r : List ℕ) → r ≡ splice (zeros w) 0 x → r ≡ padded w x
 unfolding splice padded
 splice-padded w x r e = e ∙ ap (λ (z : List ℕ). x ++ z) (drop-zeros (0 + length x) w ∙ ap (λ (k : ℕ). zeros (w - k)) (let z : 0 + length x ≡ length x = omega arith in z))
-
-pub length-padded : (w : ℕ) (x : List ℕ) → length x ≤ w → length (padded w x) ≡ w
-unfolding padded
-length-padded w x h = omega (arith, length-append x (zeros (w - length x)), length-zeros (w - length x))
 
 -- ---- the fields before the slots
 

@@ -28,7 +28,8 @@ use Rattle.header.specs.declared.Profile.{Profile}
 use Rattle.header.specs.Records.{IsProfile}
 use Rattle.built.specs.Built.{aesXtsSha1, built}
 use Rattle.formatting.specs.Input.{formatInput}
-use Rattle.formatting.proofs.FieldsLaws.{concat-append, length-slotRecord, length-eight, length-padded, length-names, length-numbers, parts-written}
+use Rattle.rules.proofs.FormatLaws.{concat-append, length-padded, length-slotRecord}
+use Rattle.formatting.proofs.FieldsLaws.{length-eight, length-names, length-numbers, parts-written}
 
 -- ---- the checks
 
@@ -193,7 +194,7 @@ header-is p q is suite-is k n key salt count uuid sum h₁ h₂ h₃ c m h s t u
     let v : length (padded 40 uuid) ≡ 40 = length-padded 40 uuid (omega (arith, u)) in
     let f : sum ≡ sumOf (q .suite) salt count key = e ∙ sym (ap (λ (S : Suite). sumOf S salt count key) suite-is) in
     parts-written h₁ h₂ h₃ (concat names) (concat numbers) (concat (map records slots))
-    (length-names (p .cipher) (p .mode) (p .hash) c m h) (length-numbers start L count sum salt (padded 40 uuid) s t v) (length-eight records (length-slotRecord n L)) e₁ e₂ e₃
+    (length-names (p .cipher) (p .mode) (p .hash) c m h) (length-numbers start L count sum salt (padded 40 uuid) s t v) (length-eight records (λ j. length-slotRecord n L disabled 0 (zeros 32) j (length-zeros 32))) e₁ e₂ e₃
     ∙ ap (λ (x : List ℕ). x ++ concat (map records slots)) (sym (concat-append names numbers))
     ∙ (λ i.
     concat (magic ∷ version ∷ is .cipher-is i ∷ is .mode-is i ∷ is .hash-is i ∷ bigEndian 4 (payloadStart n (is .key-is i)) ∷ bigEndian 4 (is .key-is i) ∷ f i ∷ salt ∷ bigEndian 4 count ∷ padded 40 uuid ∷ [])

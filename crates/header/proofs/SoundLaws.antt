@@ -10,7 +10,7 @@ use lib.ListN.{length, getD}
 use borrow.Author.Tests.{eqb-true, eqb-false, leb-true, not-true}
 use Rattle.octets.specs.Octets.{quadAt}
 use Rattle.octets.specs.Splice.{slice}
-use Rattle.octets.proofs.BoolLaws.{and-split, or-not}
+use Rattle.octets.proofs.BoolLaws.{and-split, or-not, no}
 use Rattle.suite.specs.Suite.{Suite}
 use Rattle.rules.specs.Checks.{first}
 use Rattle.rules.specs.Profiles.{Profile, holdsText, fits, numberOf, profileAt}
@@ -47,9 +47,6 @@ pub record Sound (S : Suite) (image : List ℕ) : Type 0 where
   pub payload-ends : quadAt image 104 * 512 ≤ length image
   pub slot : (k : ℕ) → k < 8 → SlotSound image k
 
-no : false ≡ true → (A : Type 0) → A
-no e A = absurd (let z : _≡_ {A = ℕ} 0 1 = cc in omega arith)
-
 positive : (n : ℕ) → n ≢ 0 → 1 ≤ n
 positive zero z = absurd (z refl)
 positive (suc n) z = omega arith
@@ -80,7 +77,7 @@ module _ (S : Suite) (image : List ℕ) where
   by-fit false true e₁ e₂ h =
       let l : quadAt image 108 ≡ 64 = fits-key (aesXtsRow S 2 64) (slice image 8 32) (slice image 40 32) (slice image 72 32) (quadAt image 108) e₂ in
       record { key-is = sym l; suite-is = refl; least = omega (arith, l); most = omega (arith, l); whole = omega (arith, l) }
-  by-fit false false e₁ e₂ h = no h _
+  by-fit false false e₁ e₂ h = no h
 
   number-is : profileIn table image ≡ cond (fits-in 1 32) 1 (cond (fits-in 2 64) 2 0)
   unfolding profileIn numberOf profilesWith aesXtsRow

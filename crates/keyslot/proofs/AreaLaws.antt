@@ -5,21 +5,16 @@ use Prim.Native.Nat.{ℕ, zero, suc, _+_, _-_, _*_, _/_, _%_, _<_, _≤_}
 use native.Mathlib.Nat.{mul-le-mul-right, mul-assoc}
 use native.Mathlib.Numerals.{add-one}
 use native.Mathlib.Omega.{arith}
-use lib.ListN.{length, take, drop, length-append, length-drop}
+use lib.ListN.{length, take, drop, length-drop}
 use lib.Seq.{take-all, take-at, drop-drop}
-use Rattle.octets.proofs.OctetsLaws.{length-xors}
 use Rattle.octets.proofs.PiecesLaws.{inPieces-more, inPieces-none}
 use Rattle.sha1.specs.Sha1.{sha1}
 use Rattle.pbkdf2.specs.Pbkdf2.{pbkdf2}
-use Rattle.aes.specs.Aes.{invCipher}
-use Rattle.aes.proofs.AesLaws.{length-invCipher}
 use Rattle.suite.specs.Split.{running, split, mergeFrom, merge}
 use Rattle.suite.specs.Units.{inUnits}
 use Rattle.suite.proofs.SplitLaws.{mergeFrom-append}
 use Rattle.splitter.specs.Diffuse.{diffuse}
-use Rattle.xts.specs.Xts.{double, block, blocks, dataUnit, xtsEncrypt, xtsDecrypt}
-use Rattle.xts.specs.Keys.{unitRun, unitDecrypt}
-use Rattle.xts.specs.declared.Keys.{Keys}
+use Rattle.xts.specs.Xts.{xtsEncrypt, xtsDecrypt}
 use Rattle.rules.specs.Facts.{keyMaterial, candidateOf}
 use Rattle.built.specs.Built.{aesXtsSha1}
 use Rattle.keyslot.specs.Keyslot.{slotInput}
@@ -58,21 +53,6 @@ whole-blocks n L x e h =
     let b : n * (L / 32 * 32) ≡ n * (L / 32) * 32 = sym (mul-assoc n (L / 32) 32) in
     let c : x ≡ n * (L / 32) * 32 = sym e ∙ ap (λ (k : ℕ). n * k) a ∙ b in
     omega (arith, c)
-
-length-blocks : (f : List ℕ → List ℕ) → ((x : List ℕ) → length (f x) ≡ 16) → (m : ℕ) (t s : List ℕ) → length (blocks f m t s) ≡ m * 16
-unfolding blocks block
-length-blocks f hf zero t s = refl
-length-blocks f hf (suc m) t s =
-    let b : List ℕ = block f t (take 16 s) in
-    let r : List ℕ = blocks f m (double t) (drop 16 s) in
-    let lb : length b ≡ 16 = length-xors (f _) t ∙ hf _ in
-    let lr : length r ≡ m * 16 = length-blocks f hf m (double t) (drop 16 s) in
-    length-append b r ∙ omega (arith, lb, lr)
-
-pub length-unitDecrypt : (k : Keys) (u : ℕ) (x : List ℕ) → length x % 16 ≡ 0 → length (unitDecrypt k u x) ≡ length x
-unfolding unitRun dataUnit
-length-unitDecrypt k u x h =
-    length-blocks (invCipher (k .rounds) (k .blocks)) (length-invCipher (k .rounds) (k .blocks)) (length x / 16) _ x ∙ omega arith
 
 -- ---- how many stripes are left, where a unit holds per of them
 

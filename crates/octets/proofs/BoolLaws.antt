@@ -30,3 +30,11 @@ and-false false b e = refl
 pub or-not : (a b : Bool) → (not a || b) ≡ true → a ≡ true → b ≡ true
 or-not true b h e = h
 or-not false b h e = absurd (let z : _≡_ {A = ℕ} 0 1 = cc in omega arith)
+
+pub or-split : {A : Type 0} (a b : Bool) → (a || b) ≡ true → (a ≡ true → A) → (b ≡ true → A) → A
+or-split true b h f k = f h
+or-split false b h f k = k h
+
+-- both at once never hold
+pub no : {A : Type 0} → false ≡ true → A
+no e = absurd (let z : _≡_ {A = ℕ} 0 1 = cc in omega arith)

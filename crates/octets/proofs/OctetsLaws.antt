@@ -3,11 +3,11 @@ use mathlib.Core.Path.{_≡_, refl, sym, ap, ap₂, _∙_}
 use mathlib.Core.List.{List, [], _∷_, _++_, map}
 use mathlib.Core.Logic.{_≢_}
 use mathlib.Core.Bool.{Bool, true, false, _&&_}
-use Prim.Native.Nat.{ℕ, zero, suc, _+_, _/_, _%_, _^_, _≤_, _<_}
+use Prim.Native.Nat.{ℕ, zero, suc, _+_, _-_, _/_, _%_, _^_, _≤_, _<_}
 use native.Mathlib.Nat.{mod-lt, zero-lt-suc, suc-inj}
 use native.Mathlib.Numerals.{add-one}
 use native.Mathlib.Omega.{arith}
-use lib.ListN.{length, take, drop, getD, replicate, length-append, length-take, length-drop, length-replicate, drop-of-length-le}
+use lib.ListN.{length, take, drop, getD, replicate, length-append, length-take, length-drop, length-replicate, length-map, replicate-append-replicate, drop-of-length-le}
 use lib.Seq.{length-take-le, drop-cons}
 use lib.Dec.{eqb}
 use borrow.Author.Tests.{eqb-true, eq-eqb, ne-eqb}
@@ -68,6 +68,19 @@ str-zeros n = record { len = length-replicate n 0; byte = go n }
     go : (n : ℕ) → Bytes (replicate n 0)
     go zero = tt
     go (suc n) = (omega arith, go n)
+
+pub zeros-append : (a b : ℕ) → zeros a ++ zeros b ≡ zeros (a + b)
+unfolding zeros
+zeros-append a b = replicate-append-replicate a b 0
+
+pub drop-zeros : (k n : ℕ) → drop k (zeros n) ≡ zeros (n - k)
+unfolding zeros
+drop-zeros zero n = ap zeros (let e : n ≡ n - 0 = omega arith in e)
+drop-zeros (suc k) zero = ap zeros (let e : 0 ≡ 0 - suc k = omega arith in e)
+drop-zeros (suc k) (suc n) = drop-zeros k n ∙ ap zeros (let e : n - k ≡ suc n - suc k = omega arith in e)
+
+pub str-map : (f : ℕ → ℕ) → ((a : ℕ) → a < 256 → f a < 256) → (n : ℕ) (x : List ℕ) → Str n x → Str n (map f x)
+str-map f hf n x h = record { len = length-map x f ∙ h .len; byte = bytes-map f hf x (h .byte) }
 
 -- ---- numbers in bytes
 

@@ -54,6 +54,17 @@ module _ {ℓ} {A : Type ℓ} where
   unfolding splice
   splice-all a c e = rw (zero-add, e, drop-length a) (append-nil c)
 
+  pub splice-nil : (l : List A) (o : ℕ) → splice l o [] ≡ l
+  unfolding splice
+  splice-nil l o = ap (λ (n : ℕ). take o l ++ drop n l) (let e : o + 0 ≡ o = omega arith in e) ∙ take-append-drop o l
+
+  -- a part, from a to e, that was lent and given back as y
+  pub splice-part : (l y : List A) (a e : ℕ) → a ≤ e → length y ≡ e - a → take a l ++ (y ++ drop (e - a) (drop a l)) ≡ splice l a y
+  unfolding splice
+  splice-part l y a e h n =
+      let m : a + (e - a) ≡ a + length y = omega arith in
+      ap (λ (z : List A). take a l ++ (y ++ z)) (drop-drop (e - a) a l ∙ ap (λ (k : ℕ). drop k l) m)
+
   -- ---- a slice of a splice
 
   pub slice-splice-same : (l : List A) (o : ℕ) (b : List A) → o + length b ≤ length l → slice (splice l o b) o (length b) ≡ b
@@ -105,6 +116,24 @@ module _ {ℓ} {A : Type ℓ} where
       ∙ sym (splice-here (take p l) (splice (drop p l) 0 c) b o g)
       ∙ ap (λ x. splice x o b) (sym (one (take p l) f))
       ∙ ap (λ x. splice (splice x p c) o b) le
+
+  -- one string behind another
+  pub splice-next : (l : List A) (o : ℕ) (b : List A) (p : ℕ) (c : List A) → p ≡ o + length b → o ≤ length l
+      → splice (splice l o b) p c ≡ splice l o (b ++ c)
+  unfolding splice
+  splice-next l o b p c e h =
+      let m : ℕ = o + length b in
+      let a : List A = take o l ++ b in
+      let d : List A = drop (o + length (b ++ c)) l in
+      let g : length a ≡ m = length-append (take o l) b ∙ ap (λ (n : ℕ). n + length b) (length-take-le o l h) in
+      let f : p ≡ m + 0 = omega arith in
+      let n : m + (0 + length c) ≡ o + length (b ++ c) = omega (arith, length-append b c) in
+      ap (λ (x : List A). splice x p c) (sym (append-assoc (take o l) b (drop m l)))
+      ∙ ap (λ (k : ℕ). splice (a ++ drop m l) k c) f
+      ∙ splice-skip a (drop m l) c m 0 g
+      ∙ ap (λ (x : List A). a ++ (c ++ x)) (drop-drop (0 + length c) m l ∙ ap (λ (k : ℕ). drop k l) n)
+      ∙ append-assoc (take o l) b (c ++ d)
+      ∙ ap (λ (x : List A). take o l ++ x) (sym (append-assoc b c d))
 
   -- a loop that copies all of b, in the words of `lib.Seq`
   pub splice-paste : (l : List A) (o : ℕ) (b : List A) (n : ℕ) → n ≡ length b → paste l o b n ≡ splice l o b

@@ -22,7 +22,7 @@ use Rattle.built.specs.Built.{aesXtsSha1, built}
 use Rattle.header.specs.declared.Refusal.{Refusal}
 use Rattle.header.specs.Refusals.{number}
 use Rattle.header.proofs.SoundLaws.{sound}
-use Rattle.header.proofs.ArgumentLaws.{number-in, passphrase-in}
+use Rattle.rules.proofs.ArgumentLaws.{number-in, passphrase-in}
 use Rattle.opening.specs.declared.Opened.{Opened}
 use Rattle.opening.specs.Opening.{IsAnswer, keyOf, zeroed}
 

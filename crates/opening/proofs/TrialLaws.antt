@@ -2,13 +2,13 @@
 use mathlib.Core.Path.{_≡_, sym, ap, ap₂, _∙_}
 use mathlib.Core.List.{List, _++_}
 use mathlib.Core.Bool.{Bool, true, false}
-use Prim.Native.Nat.{ℕ, zero, suc, _+_, _-_, _*_, _≤_, _<_}
-use native.Mathlib.Nat.{sub-zero}
+use Prim.Native.Nat.{ℕ, _+_, _-_, _*_, _≤_, _<_}
 use native.Mathlib.Omega.{arith}
 use lib.ListN.{length, take, drop, replicate}
 use Rattle.octets.specs.Octets.{quadAt, zeros}
 use Rattle.octets.specs.Splice.{slice}
 use Rattle.octets.proofs.BoolLaws.{and-no, and-yes}
+use Rattle.octets.proofs.OctetsLaws.{drop-zeros}
 use Rattle.rules.specs.Checks.{first}
 use Rattle.rules.specs.Facts.{factsOf, slotAt, slotOf, isEnabled, matches, candidateOf, candidate}
 use Rattle.rules.specs.Header.{headerChecks}
@@ -75,13 +75,7 @@ module _ (image : List ℕ) (ok : first (headerChecks built image) ≡ 0) (k : �
 
 -- ---- its key, followed by zeros
 
-drop-zeros : (n m : ℕ) → drop n (replicate m 0) ≡ zeros (m - n)
-unfolding zeros
-drop-zeros zero m = ap zeros (sym (sub-zero m))
-drop-zeros (suc n) zero = ap zeros (let e : 0 ≡ 0 - suc n = omega arith in e)
-drop-zeros (suc n) (suc m) = drop-zeros n m ∙ ap zeros (let e : m - n ≡ suc m - suc n = omega arith in e)
-
 pub key-padded : (image p y : List ℕ) (k n : ℕ) → length y ≡ n → y ≡ candidate (factsOf built image) k p → y ++ drop n (replicate 64 0) ≡ keyOf (factsOf built image) k p
-unfolding keyOf
+unfolding keyOf zeros
 key-padded image p y k n l e =
     ap (λ (z : List ℕ). y ++ z) (drop-zeros n 64 ∙ ap (λ (x : ℕ). zeros (64 - x)) (sym l)) ∙ ap (λ (z : List ℕ). z ++ zeros (64 - length z)) e

@@ -26,10 +26,11 @@ pub record IsAnswer (o : Opened) (a : Answer) : Type 0 where
 unfoldable pub keyOf : Facts → ℕ → List ℕ → List ℕ
 keyOf f k passphrase = let key = candidate f k passphrase in key ++ zeros (64 - length key)
 
--- a trial of slot k: whether it opens, and then its key
+-- a trial of slot k: whether it opens, and then its key, of L bytes
 pub record IsTrial (t : Trial) (f : Facts) (k : ℕ) (passphrase : List ℕ) : Type 0 where
   pub opens-is : t .opens ≡ opens f k passphrase
   pub key-is : t .opens ≡ true → t .key ≡ keyOf f k passphrase
+  pub length-is : t .opens ≡ true → length (candidate f k passphrase) ≡ f .profile .keyBytes
 
 -- the slot found, counted from 1, or 0
 abbrev pub slotFound : Found → ℕ

@@ -22,7 +22,7 @@ use Rattle.rules.proofs.ChecksLaws.{accepted}
 use Rattle.rules.proofs.StepLaws.{slots-at, slotOf-image}
 use Rattle.built.specs.Built.{aesXtsSha1, built}
 use Rattle.header.specs.Layout.{slotIn}
-use Rattle.header.proofs.ArgumentLaws.{number-is, number-in}
+use Rattle.rules.proofs.ArgumentLaws.{number-is, number-in}
 use Rattle.header.proofs.SoundLaws.{sound}
 
 -- ---- scans
@@ -109,9 +109,15 @@ module _ (image : List ℕ) (ok : first (headerChecks built image) ≡ 0) (slot 
     unfolding factsOf
     others-are = refl
 
-    filler-is : fillerOk facts slot filler ≡ eqb (length filler) (slotIn image (slot - 1) .stripes * quadAt image 108)
+    pub filler-is : fillerOk facts slot filler ≡ eqb (length filler) (slotIn image (slot - 1) .stripes * quadAt image 108)
     unfolding fillerOk
     filler-is = ap₂ (λ (s : SlotFacts) (L : ℕ). eqb (length filler) (s .stripes * L)) slot-is (sound aesXtsSha1 image ok .row .key-is)
+
+    -- filler of that length stays inside the image
+    pub filler-room : length filler ≡ slotIn image (slot - 1) .stripes * quadAt image 108 → slotIn image (slot - 1) .start * 512 + length filler ≤ length image
+    filler-room e =
+        let s = sound aesXtsSha1 image ok in
+        omega (arith, e, s .slot (slot - 1) (omega arith) .area-ends, s .payload-ends)
 
     pub not-enabled : isEnabled (slotIn image (slot - 1)) ≡ false → 15 ≡ first (checks facts (revoke slot filler))
     unfolding checks first
@@ -131,15 +137,15 @@ module _ (image : List ℕ) (ok : first (headerChecks built image) ≡ 0) (slot 
         unfolding checks first
         all-hold e = rw (in-range, slot-is, e₁, others-are, e₂, filler-is, e)
 
-  -- what an accepted call's arguments are
-  pub room : first (checks facts (revoke slot filler)) ≡ 0 → (1 ≤ slot) × (slot ≤ 8) × (length filler ≡ slotIn image (slot - 1) .stripes * quadAt image 108)
+  -- an accepted call has room for its writes
+  pub room : first (checks facts (revoke slot filler)) ≡ 0 → (1 ≤ slot) × (slot ≤ 8) × (slotIn image (slot - 1) .start * 512 + length filler ≤ length image)
   unfolding checks
   room e =
       let p = accepted (checks facts (revoke slot filler)) refl e in
       let n = number-in slot (p .0) in
       let h₁ : 1 ≤ slot = n .0 in
       let h₈ : slot ≤ 8 = n .1 in
-      (h₁, h₈, eqb-true _ _ (sym (filler-is h₁ h₈) ∙ p .1 .1 .1 .0))
+      (h₁, h₈, filler-room h₁ h₈ (eqb-true _ _ (sym (filler-is h₁ h₈) ∙ p .1 .1 .1 .0)))
 
 -- ---- what is written
 

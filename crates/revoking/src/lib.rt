@@ -5,7 +5,7 @@ ghost use mathlib.Core.List.{map};
 ghost use mathlib.Core.Bool.{true};
 ghost use Prim.Native.Nat.{_+_, _-_, _*_, _≤_, _<_};
 ghost use lib.ListN.{length, take, drop};
-ghost use Rattle.octets.specs.Octets.{zeros, quadAt};
+ghost use Rattle.octets.specs.Octets.{zeros};
 ghost use Rattle.rules.specs.Checks.{first};
 ghost use Rattle.rules.specs.Layout.{slots};
 ghost use Rattle.rules.specs.Facts.{factsOf, disabled};
@@ -52,9 +52,9 @@ fn disabled_head() -> [u8; 40]
     head
 }
 
-// Fills the slot's area and disables its record.
+// Fills the slot's area, as far as the filler goes, and disables its record.
 pub fn disable_slot(image: &mut [u8], slot: u8, filler: &[u8])
-    requires { ⌜ (first (headerChecks built (now image)) ≡ 0) × (1 ≤ slot) × (slot ≤ 8) × (length (now filler) ≡ slotIn (now image) (slot - 1) .stripes * quadAt (now image) 108) ⌝ }
+    requires { ⌜ (1024 ≤ length (now image)) × (1 ≤ slot) × (slot ≤ 8) × (slotIn (now image) (slot - 1) .start * 512 + length (now filler) ≤ length (now image)) ⌝ }
     ensures { λ _. ⌜ now (image .exit) ≡ written (disableWrites (factsOf built (now (image .entry))) slot (now (filler .entry))) (now (image .entry)) ⌝ }
 {
     let k = (slot - 1) as usize;

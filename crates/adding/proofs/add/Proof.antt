@@ -72,7 +72,7 @@ returns-3 c =
     let s = start h in
     let k = c .before .before .before .before .before .before .add-check in
     settled-accepted built (s .args .image .now) (called s) (sound-header h) (number (k .result)) _ (sym (c .before .before .before .before .before .number-of2 .ensures) ∙ c .before .before .before .before .if2 .left)
-    (k .ensures (s .args .salt .now)) refl (c .before .before .enable-slot .ensures)
+    (k .ensures (s .args .salt .now)) refl (c .before .before .enable-slot .ensures .0)
 
 pub add-spec : {M : Type 1} → statement M
 add-spec =

@@ -13,7 +13,7 @@ use Rattle.built.specs.Built.{aesXtsSha1, built}
 use Rattle.header.specs.Layout.{slotIn}
 use Rattle.header.proofs.SlotLaws.{enabled-is, stripes-fit}
 use Rattle.header.proofs.SoundLaws.{SlotSound, sound}
-use Rattle.header.proofs.ArgumentLaws.{number-in}
+use Rattle.rules.proofs.ArgumentLaws.{number-in}
 use Rattle.adding.proofs.AddLaws.{bad-slot, in-use, bad-key, bad-passphrase, low-count, bad-random, wrong-key, all-hold}
 use Rattle.adding.proofs.add_check.Statement.{statement}
 use Rattle.adding.proofs.add_check.Tie as tie

@@ -6,11 +6,13 @@ use native.Mathlib.Omega.{arith}
 use lib.ListN.{length, take, drop}
 use borrow.Author.Needs.{needs}
 use Rattle.octets.specs.Splice.{slice}
-use Rattle.octets.proofs.SpliceLaws.{length-slice, length-splice}
+use Rattle.octets.proofs.SpliceLaws.{length-slice, length-splice, splice-part}
+use Rattle.rules.specs.Facts.{enabled}
+use Rattle.rules.proofs.FormatLaws.{length-recordHead}
 use Rattle.built.specs.Built.{aesXtsSha1}
 use Rattle.header.proofs.SlotLaws.{stripes-fit}
 use Rattle.header.proofs.SoundLaws.{Sound, SlotSound, sound}
-use Rattle.adding.proofs.AddLaws.{splice-part, area-room, slot-enabled}
+use Rattle.adding.proofs.AddLaws.{area-room, slot-enabled}
 use Rattle.adding.proofs.enable_slot.Statement.{statement}
 use Rattle.adding.proofs.enable_slot.Tie as tie
 
@@ -130,9 +132,12 @@ returns c =
     let f = c .before .before .before .before .before .before .before .before .fill in
     let h = c .before .before .before .before .before .enabled-head in
     let y = filled (c .before .before .before .before .before .before .before .before) in
-    slot-enabled (a .image .now) (a .slot) (omega arith) (omega arith) (start p .pre .0) (s .result .start .0) n L (a .count) (a .key .now) (a .passphrase .now) (a .salt .now) (a .random .now)
-    (f .last .0) (h .result) _ _ (s .ensures .start-is) (s .ensures .stripes-is) (start p .pre .3) (f .ensures) (h .ensures)
-    (splice-part (a .image .now) (f .last .0) at (at + n * L) (omega arith) (omega (arith, y))) (c .before .before .copy-into .ensures)
+    let w : length (h .result) ≡ 40 = search needs in (
+      slot-enabled (a .image .now) (a .slot) (omega arith) (omega arith) (start p .pre .0) (s .result .start .0) n L (a .count) (a .key .now) (a .passphrase .now) (a .salt .now) (a .random .now)
+          (f .last .0) (h .result) _ _ (s .ensures .start-is) (s .ensures .stripes-is) (start p .pre .3) (f .ensures) (h .ensures)
+          (splice-part (a .image .now) (f .last .0) at (at + n * L) (omega arith) (omega (arith, y))) (c .before .before .copy-into .ensures),
+      omega (arith, w, ap length (h .ensures), length-recordHead enabled (a .count) (a .salt .now)),
+    )
 
 pub enable-slot-spec : {M : Type 1} → statement M
 enable-slot-spec =

@@ -14,7 +14,8 @@ use Rattle.suite.proofs.SplitLaws.{last-stripe}
 use Rattle.splitter.specs.Diffuse.{diffuse}
 use Rattle.splitter.proofs.StripesLaws.{merge-is}
 use Rattle.xts.specs.Keys.{unitDecrypt}
-use Rattle.keyslot.proofs.AreaLaws.{whole-blocks, length-unitDecrypt, more-left, less-left, merge-more, merge-end}
+use Rattle.xts.proofs.KeysLaws.{length-unitDecrypt}
+use Rattle.keyslot.proofs.AreaLaws.{whole-blocks, more-left, less-left, merge-more, merge-end}
 use Rattle.keyslot.proofs.merge_units.Statement.{statement}
 use Rattle.keyslot.proofs.merge_units.Tie as tie
 

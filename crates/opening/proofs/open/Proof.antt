@@ -9,7 +9,7 @@ use Rattle.rules.specs.Calls.{openAny, seek}
 use Rattle.built.specs.Built.{aesXtsSha1, built}
 use Rattle.header.proofs.SoundLaws.{sound}
 use Rattle.opening.specs.Opening.{keyOf, slotFound}
-use Rattle.header.proofs.ArgumentLaws.{passphrase-in}
+use Rattle.rules.proofs.ArgumentLaws.{passphrase-in}
 use Rattle.opening.proofs.OpenLaws.{refused-header, refused-check, no-key-any, seek-most, any-bad-passphrase, any-wrong-key, any-opened}
 use Rattle.opening.proofs.open.Statement.{statement}
 use Rattle.opening.proofs.open.Tie as tie

@@ -12,7 +12,7 @@ use Rattle.rules.proofs.StepLaws.{slotOf-image}
 use Rattle.built.specs.Built.{aesXtsSha1, built}
 use Rattle.header.proofs.SlotLaws.{enabled-is}
 use Rattle.header.proofs.SoundLaws.{sound}
-use Rattle.header.proofs.ArgumentLaws.{number-in}
+use Rattle.rules.proofs.ArgumentLaws.{number-in}
 use Rattle.opening.proofs.open_slot_check.Statement.{statement}
 use Rattle.opening.proofs.open_slot_check.Tie as tie
 

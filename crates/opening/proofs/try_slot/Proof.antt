@@ -33,6 +33,7 @@ returns c =
     record {
       opens-is = opens-off m (c .before .before .before .before .before .pre .0) (a .k) (c .before .before .before .before .before .pre .1) (a .passphrase .now) (e ∙ not-true (t .result) (c .if1 .taken));
       key-is = λ q. absurd (let z : _≡_ {A = ℕ} 0 1 = cc in omega arith);
+      length-is = λ q. absurd (let z : _≡_ {A = ℕ} 0 1 = cc in omega arith);
     }
 
 be32-at-requires : tie.Need-be32-at-requires
@@ -100,9 +101,11 @@ returns-2 c =
     let t = c .before .before .before .before .before .before .before .is-enabled in
     let e = enabled-is m (a .k) (c .before .before .before .before .before .before .before .before .slot-at .result) (c .before .before .before .before .before .before .before .before .slot-at .ensures) (t .result) (t .ensures) ∙ not-false (t .result) (c .before .before .before .before .before .before .if1 .left) in
     let k = c .before .before .before .slot-candidate .ensures in
+    let s = sound aesXtsSha1 m (c .before .before .before .before .before .before .before .before .before .before .before .pre .0) in
     record {
       opens-is = opens-on m (c .before .before .before .before .before .before .before .before .before .before .before .pre .0) (a .k) (c .before .before .before .before .before .before .before .before .before .before .before .pre .1) (a .passphrase .now) (take n (y ++ drop n z64)) (c .key-matches .result) e (take-at y (drop n z64) n ly ∙ k) (c .key-matches .ensures);
       key-is = λ q. key-padded m (a .passphrase .now) y (a .k + 1) n ly k;
+      length-is = λ q. sym (ap length k) ∙ ly ∙ c .before .before .before .before .before .be32-at .ensures ∙ sym (s .row .key-is);
     }
 
 pub try-slot-spec : {M : Type 1} → statement M

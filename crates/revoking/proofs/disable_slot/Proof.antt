@@ -1,11 +1,9 @@
 -- `revoking::disable_slot` meets its contract.
 use mathlib.Core.Path.{_≡_, ap}
-use Prim.Native.Nat.{ℕ, _-_, _*_}
+use Prim.Native.Nat.{ℕ, _*_}
 use native.Mathlib.Omega.{arith}
 use lib.ListN.{length}
 use borrow.Author.Needs.{needs}
-use Rattle.header.proofs.SoundLaws.{sound}
-use Rattle.built.specs.Built.{aesXtsSha1}
 use Rattle.revoking.proofs.RevokeLaws.{disabled-is}
 use Rattle.revoking.proofs.disable_slot.Statement.{statement}
 use Rattle.revoking.proofs.disable_slot.Tie as tie
@@ -17,7 +15,7 @@ cast-k : tie.Need-cast-k
 cast-k c = search needs
 
 slot-at-requires : tie.Need-slot-at-requires
-slot-at-requires c κs = (omega arith, sound aesXtsSha1 (c .before .before .before .args .image .now) (c .before .before .before .pre .0) .size)
+slot-at-requires c κs = (omega arith, c .before .before .before .pre .0)
 
 cast-at : tie.Need-cast-at
 cast-at c = search needs
@@ -27,11 +25,8 @@ mul-at c = search needs
 
 copy-into-requires : tie.Need-copy-into-requires
 copy-into-requires c κs =
-    let a = c .before .before .before .before .before .before .args in
-    let m = a .image .now in
-    let s = sound aesXtsSha1 m (c .before .before .before .before .before .before .pre .0) in
-    let k = s .slot (a .slot - 1) (omega arith) in
-    omega (arith, k .area-ends, s .payload-ends, c .before .before .slot-at .ensures .start-is)
+    let room = c .before .before .before .before .before .before .pre .3 in
+    omega (arith, room, c .before .before .slot-at .ensures .start-is)
 
 disabled-head-requires : tie.Need-disabled-head-requires
 disabled-head-requires c κs = search needs
@@ -50,8 +45,8 @@ copy-into-requires-2 c κs =
     let a = c .before .before .before .before .before .before .before .before .before .before .before .before .args in
     let l : length (c .before .before .before .before .before .copy-into .last .0) ≡ length (a .image .now) = search needs in
     let h : length (c .before .before .disabled-head .result) ≡ 40 = search needs in
-    let z = sound aesXtsSha1 (a .image .now) (c .before .before .before .before .before .before .before .before .before .before .before .before .pre .0) .size in
-    omega arith
+    let z = c .before .before .before .before .before .before .before .before .before .before .before .before .pre .0 in
+    omega (arith, z)
 
 same-length : tie.Need-same-length
 same-length c = search needs

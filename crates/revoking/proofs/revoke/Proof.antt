@@ -10,6 +10,7 @@ use Rattle.rules.specs.Calls.{done, answer}
 use Rattle.rules.specs.Step.{writes}
 use Rattle.rules.proofs.StepLaws.{settled-header, settled-check, settled-accepted}
 use Rattle.header.specs.Refusals.{number}
+use Rattle.header.proofs.SoundLaws.{sound}
 use Rattle.revoking.proofs.revoke.Statement.{statement}
 use Rattle.revoking.proofs.revoke.Tie as tie
 
@@ -46,7 +47,7 @@ disable-slot-requires c κs =
     let a = c .before .before .before .before .before .before .before .before .before .before .before .args in
     let ok : first (headerChecks built (a .image .now)) ≡ 0 = sym (c .before .before .before .before .before .before .before .header-check .ensures aesXtsSha1) ∙ sym (c .before .before .before .before .before .before .number-of .ensures) ∙ c .before .before .before .before .before .if1 .left in
     let r = room (a .image .now) ok (a .slot) (a .filler .now) (sym (c .before .before .before .revoke-check .ensures) ∙ sym (c .before .before .number-of2 .ensures) ∙ c .before .if2 .left) in
-    (ok, r .0, r .1, r .2)
+    (sound aesXtsSha1 (a .image .now) ok .size, r .0, r .1, r .2)
 
 same-length-3 : tie.Need-same-length-3
 same-length-3 c = search needs

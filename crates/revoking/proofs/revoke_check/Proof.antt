@@ -10,7 +10,7 @@ use Rattle.octets.specs.Octets.{quadAt}
 use Rattle.header.specs.Layout.{slotIn}
 use Rattle.header.proofs.SoundLaws.{sound}
 use Rattle.built.specs.Built.{aesXtsSha1}
-use Rattle.header.proofs.ArgumentLaws.{number-in}
+use Rattle.rules.proofs.ArgumentLaws.{number-in}
 use Rattle.revoking.proofs.RevokeLaws.{bad-slot, not-enabled, last-slot, bad-filler, all-hold}
 use Rattle.header.proofs.SlotLaws.{enabled-is, stripes-fit}
 use Rattle.revoking.proofs.revoke_check.Statement.{statement}

@@ -9,8 +9,10 @@ use Rattle.octets.specs.Octets.{zeros}
 use Rattle.octets.specs.Splice.{splice}
 use Rattle.rules.specs.Layout.{slots}
 use Rattle.rules.specs.Facts.{disabled}
+use Rattle.octets.proofs.OctetsLaws.{length-zeros}
 use Rattle.rules.specs.Format.{concat, slotRecord}
-use Rattle.formatting.proofs.FieldsLaws.{length-slotRecord, record-none, record-next}
+use Rattle.rules.proofs.FormatLaws.{length-slotRecord}
+use Rattle.formatting.proofs.FieldsLaws.{record-none, record-next}
 use Rattle.formatting.proofs.fields.put_slots.Statement.{statement}
 use Rattle.formatting.proofs.fields.put_slots.Tie as tie
 
@@ -58,7 +60,7 @@ loop-again c =
       omega arith,
       n,
       w .ensures ∙ ap (splice (l .h) (208 + l .k * 48)) (c .before .before .before .before .before .slot-record .ensures)
-          ∙ record-next f (length-slotRecord (a .stripes) (a .key-bytes)) (a .h .now) (l .h) (l .k) (omega arith) (omega arith) (l .inv .2),
+          ∙ record-next f (λ j. length-slotRecord (a .stripes) (a .key-bytes) disabled 0 (zeros 32) j (length-zeros 32)) (a .h .now) (l .h) (l .k) (omega arith) (omega arith) (l .inv .2),
     )
 
 same-length : tie.Need-same-length Inv-loop μ-loop

@@ -1,0 +1,14 @@
+pub mod PartsLaws
+pub mod LayoutLaws
+pub mod AllLaws
+pub mod AreaLaws
+pub mod DriveLaws
+pub mod ReadingLaws
+pub mod WritingLaws
+pub mod LedgerLaws
+pub mod EnterLaws
+pub mod StartLaws
+pub mod AnswerLaws
+pub mod LiveLaws
+pub mod General
+pub mod Built

@@ -1,0 +1,166 @@
+-- The facts of a good drive's image are the drive's, and its header check passes.
+use mathlib.Core.Path.{_≡_, refl, sym, ap, ap₂, _∙_}
+use mathlib.Core.List.{List, [], _∷_, map}
+use mathlib.Core.Bool.{Bool, true}
+use Prim.Native.Nat.{ℕ, suc, _+_, _*_, _%_, _≤_, _<_}
+use native.Mathlib.Nat.{zero-add, add-zero}
+use native.Mathlib.Omega.{arith}
+use lib.Dec.{ltb}
+use lib.ListN.{length, drop, getD}
+use borrow.Author.Tests.{lt-ltb, le-leb, eq-eqb, ne-eqb}
+use Rattle.octets.specs.Octets.{quadAt}
+use Rattle.octets.specs.Splice.{slice}
+use Rattle.octets.proofs.OctetsLaws.{same-refl}
+use Rattle.rules.specs.Profiles.{Profile, profileAt}
+use Rattle.rules.specs.Layout.{areaStart, payloadStart, slots}
+use Rattle.rules.specs.Facts.{SlotFacts, slotAt, profileIn, factsOf}
+use Rattle.rules.specs.Header.{magic, version, sizeOk, every, recordOk, slotOk, areaEnd, inside, apart, allApart, soundChecks, headerChecks}
+use Rattle.rules.specs.Format.{headFields}
+use Rattle.rules.proofs.ChecksLaws.{Pass}
+use Rattle.ledger.specs.Drive.{SlotContent, Drive, mapFrom, recordOf, driveImage, contentFacts, driveFacts}
+use Rattle.ledger.proofs.PartsLaws.{upto, tab}
+use Rattle.ledger.proofs.LayoutLaws.{start-is, bytes-fit, sectors-fit, payload-is, payload-most, start-most, area-ends}
+use Rattle.ledger.proofs.DriveLaws.{GoodDrive, GoodContent, keyBytesOf, quad-field, recordFields, record-field, noContent, contentAt, content-ok, header-field, record-at, area-at, payload-at, length-driveImage}
+
+-- ---- facts
+
+module _ (table : List Profile) (d : Drive) (g : GoodDrive table d) where
+  abbrev n : ℕ
+  n = d .input .stripes
+
+  abbrev L : ℕ
+  L = keyBytesOf table (d .input)
+
+  abbrev image : List ℕ
+  image = driveImage table d
+
+  slot-read : (k : ℕ) → k < 8 → slotAt image L k ≡ contentFacts n L k (contentAt d k)
+  unfolding slotAt contentFacts recordOf recordFields
+  slot-read k h =
+      let c = contentAt d k in
+      let r = slice image (208 + k * 48) 48 in
+      let e = record-at table d g k h in
+      let ok = content-ok table d g k h in
+      let o = g .input-ok in
+      let f = record-field n L (c .state) (c .count) (c .salt) k (ok .salt-is) in
+      let state = quad-field r 0 (c .state) (ap (λ x. slice x 0 4) e ∙ f 0 (omega arith)) (ok .state-most) in
+      let count = quad-field r 4 (c .count) (ap (λ x. slice x 4 4) e ∙ f 1 (omega arith)) (ok .count-most) in
+      let salt = ap (λ x. slice x 8 32) e ∙ f 2 (omega arith) in
+      let start = quad-field r 40 (areaStart n L k) (ap (λ x. slice x 40 4) e ∙ f 3 (omega arith)) (start-most n L (o .stripes-most) (o .row .key-most) k h) in
+      let stripes = quad-field r 44 n (ap (λ x. slice x 44 4) e ∙ f 4 (omega arith)) (omega (arith, o .stripes-most)) in
+      let area = ap₂ (λ x y. slice image (x * 512) (y * L)) start stripes ∙ area-at table d g k h in
+      λ i. record { state = state i; count = count i; salt = salt i; start = start i; stripes = stripes i; area = area i }
+
+  key-read : quadAt image 108 ≡ L
+  unfolding headFields
+  key-read = quad-field image 108 L (header-field table d g 6 (omega arith) (omega arith)) (omega (arith, g .input-ok .row .key-most))
+
+  payload-read : quadAt image 104 ≡ payloadStart n L
+  unfolding headFields
+  payload-read = quad-field image 104 (payloadStart n L) (header-field table d g 5 (omega arith) (omega arith)) (payload-most n L (g .input-ok .stripes-most) (g .input-ok .row .key-most))
+
+  profile-read : profileIn table image ≡ d .input .profile
+  unfolding headFields profileIn
+  profile-read =
+      let f = header-field table d g in
+      rw (key-read, f 2 (omega arith) (omega arith), f 3 (omega arith) (omega arith), f 4 (omega arith) (omega arith)) (g .input-ok .row .found)
+
+  slots-read : map (slotAt image (quadAt image 108)) slots ≡ mapFrom (contentFacts n L) 0 (d .contents)
+  slots-read =
+      ap (λ x. map (slotAt image x) slots) key-read
+      ∙ ap (λ x. map (slotAt image L) (upto 0 x)) (sym (g .eight))
+      ∙ tab _ _ noContent 0 (d .contents) (λ k h. rw zero-add (slot-read k (omega (arith, g .eight))))
+
+  pub facts-read : factsOf table (driveImage table d) ≡ driveFacts table d
+  unfolding factsOf driveFacts headFields
+  facts-read =
+      let f = header-field table d g in
+      let row = ap (profileAt table) profile-read in
+      let sum = f 7 (omega arith) (omega arith) in
+      let salt = f 8 (omega arith) (omega arith) in
+      let count = quad-field image 164 (d .input .count) (f 9 (omega arith) (omega arith)) (g .input-ok .count-most) in
+      let payload = ap (λ x. drop (x * 512) image) payload-read ∙ payload-at table d g in
+      λ i. record { profile = row i; payloadAt = payload-read i; checksum = sum i; sumSalt = salt i; sumCount = count i; slotFacts = slots-read i; payload = payload i }
+
+-- ---- the header check
+
+every-content : (t : SlotFacts → Bool) (f : ℕ → SlotContent → SlotFacts) (i : ℕ) (xs : List SlotContent)
+    → ((k : ℕ) → k < length xs → t (f (i + k) (getD xs k noContent)) ≡ true) → every t (mapFrom f i xs) ≡ true
+unfolding every mapFrom
+every-content t f i [] h = refl
+every-content t f i (x ∷ xs) h =
+    let a : t (f i x) ≡ true = rw add-zero at (h 0 (omega arith)) in
+    rw a (every-content t f (suc i) xs (λ k l. let q : suc i + k ≡ i + suc k = omega arith in rw q (h (suc k) (omega arith))))
+
+two-apart : (L n i k : ℕ) (s t : SlotContent) → apart L (contentFacts n L i s) (contentFacts n L (suc i + k) t) ≡ true
+unfolding apart areaEnd contentFacts
+two-apart L n i k s t =
+    let a = start-is n L i in
+    let b = start-is n L (suc i + k) in
+    let c = bytes-fit n L in
+    let d = sectors-fit n L in
+    let q : areaStart n L i * 512 + n * L ≤ areaStart n L (suc i + k) * 512 = omega arith in
+    rw (le-leb _ _ q)
+
+all-apart : (L n i : ℕ) (xs : List SlotContent) → allApart L (mapFrom (contentFacts n L) i xs) ≡ true
+unfolding allApart mapFrom
+all-apart L n i [] = refl
+all-apart L n i (x ∷ xs) =
+    rw (every-content (apart L (contentFacts n L i x)) (contentFacts n L) (suc i) xs (λ k h. two-apart L n i k x (getD xs k noContent))) (all-apart L n (suc i) xs)
+
+slot-ok : (n L k : ℕ) (c : SlotContent) → 1 ≤ n → n ≤ 4000 → GoodContent n L c → slotOk (contentFacts n L k c) ≡ true
+unfolding slotOk recordOk contentFacts
+slot-ok n L k c h i g = rw (g .state-is, le-leb _ _ h, le-leb _ _ i, g .enabled-count)
+
+slot-inside : (L n k : ℕ) (c : SlotContent) → k < 8 → inside L (payloadStart n L) (contentFacts n L k c) ≡ true
+unfolding inside areaEnd contentFacts
+slot-inside L n k c h =
+    let a = start-is n L k in
+    let b = payload-is n L in
+    let e = area-ends n L k h in
+    let q : 2 ≤ areaStart n L k = omega arith in
+    let r : areaStart n L k * 512 + n * L ≤ payloadStart n L * 512 = omega arith in
+    rw (le-leb _ _ q, le-leb _ _ r)
+
+module _ (table : List Profile) (d : Drive) (g : GoodDrive table d) where
+  sound-passes : Pass (soundChecks (driveFacts table d) (length (driveImage table d)))
+  unfolding soundChecks driveFacts
+  sound-passes =
+      let n = d .input .stripes in
+      let L = keyBytesOf table (d .input) in
+      let o = g .input-ok in
+      let e = length-driveImage table d g in
+      let fit : payloadStart n L * 512 ≤ length (driveImage table d) = omega arith in (
+        rw (ne-eqb (d .input .count) 0 (λ e. omega (arith, o .count-least)))
+            (every-content slotOk _ 0 (d .contents) (λ k h. slot-ok n L (0 + k) _ (o .stripes-least) (o .stripes-most) (content-ok table d g k (omega (arith, g .eight))))),
+        (
+          rw (
+            le-leb _ _ fit,
+            every-content (inside L (payloadStart n L)) (contentFacts n L) 0 (d .contents)
+                (λ k h. slot-inside L n (0 + k) (getD (d .contents) k noContent) (omega (arith, g .eight))),
+          )
+              (all-apart L n 0 (d .contents)),
+          tt,
+        ),
+      )
+
+  pub header-passes : Pass (headerChecks table (driveImage table d))
+  unfolding headerChecks headFields sizeOk
+  header-passes =
+      let f = header-field table d g in
+      let e = length-driveImage table d g in
+      let b = payload-is (d .input .stripes) (keyBytesOf table (d .input)) in
+      let big : 1024 ≤ length (driveImage table d) = omega arith in
+      let whole : length (driveImage table d) % 512 ≡ 0 = omega arith in (
+        rw (le-leb _ _ big, eq-eqb _ _ whole),
+        (
+          rw (f 0 (omega arith) (omega arith)) (same-refl magic),
+          (
+            rw (f 1 (omega arith) (omega arith)) (same-refl version),
+            (
+              ap (λ x. ltb 0 x) (profile-read table d g) ∙ lt-ltb 0 (d .input .profile) (g .input-ok .row .number-least),
+              rw (facts-read table d g) sound-passes,
+            ),
+          ),
+        ),
+      )

@@ -1,0 +1,114 @@
+-- Demand 3 (01, "The ledger"), as a statement about a table, an accepted format and a list of calls.
+use mathlib.Core.Path.{_≡_}
+use mathlib.Core.List.{List, [], _∷_, _++_}
+use mathlib.Core.Bool.{Bool, true, false, _&&_, _||_}
+use Prim.Native.Nat.{ℕ, _-_, _^_, _≤_, _<_}
+use lib.Dec.{eqb}
+use lib.ListN.{length, getD}
+use Rattle.octets.specs.Octets.{Bytes, zeros}
+use Rattle.rules.specs.Profiles.{Profile, profileAt}
+use Rattle.rules.specs.Facts.{SlotInput, enabled}
+use Rattle.rules.specs.Calls.{Call, add, change, revoke, openSlot, openAny, read, write, Answer}
+use Rattle.rules.specs.Step.{step, run}
+use Rattle.rules.specs.Format.{FormatInput, format}
+use Rattle.ledger.specs.Ledger.{Ledger, SlotEntry, empty, live, SectorEntry, atFormat, lastWriting, stateOf, ledgerImage, enterAll, startLedger}
+
+-- ---- arguments as Rattle's types have them: "Salts are 32 bytes, counts 32 bits"; what is not said here is not needed
+
+-- format's
+pub record FormatTyped (a : FormatInput) : Type 0 where
+  pub salt-is : length (a .salt) ≡ 32
+  pub count-most : a .count < 2 ^ 32
+
+-- those that make a slot live
+pub record SlotTyped (x : SlotInput) : Type 0 where
+  pub salt-is : length (x .salt) ≡ 32
+  pub count-most : x .count < 2 ^ 32
+  pub random-bytes : Bytes (x .random)
+
+-- a call's
+abbrev pub Typed : Call → Type 0
+Typed (add k key x) = Bytes key × SlotTyped x
+Typed (change k passphrase to x filler) = SlotTyped x
+Typed (revoke k filler) = Unit {0}
+Typed (openSlot k passphrase) = Unit {0}
+Typed (openAny passphrase) = Unit {0}
+Typed (read key u n buffer) = Unit {0}
+Typed (write key u n buffer) = Bytes key × Bytes buffer
+
+-- each call's
+abbrev pub AllTyped : List Call → Type 0
+AllTyped [] = Unit {0}
+AllTyped (c ∷ cs) = Typed c × AllTyped cs
+
+-- ---- the end of a list
+
+-- beyond the entries
+abbrev pub noEntry : SlotEntry
+noEntry = empty []
+
+abbrev pub noSector : SectorEntry
+noSector = atFormat []
+
+-- slot k, 1 to 8
+abbrev pub entryOf : Ledger → ℕ → SlotEntry
+entryOf l k = getD (l .slotEntries) (k - 1) noEntry
+
+-- sector u of the payload, from 0
+abbrev pub sectorEntryOf : Ledger → ℕ → SectorEntry
+sectorEntryOf l u = getD (l .sectorEntries) u noSector
+
+unfoldable pub isAdd : Call → Bool
+isAdd (add k key x) = true
+isAdd (change k passphrase to x filler) = false
+isAdd (revoke k filler) = false
+isAdd (openSlot k passphrase) = false
+isAdd (openAny passphrase) = false
+isAdd (read key u n buffer) = false
+isAdd (write key u n buffer) = false
+
+-- an add of the list was accepted
+unfoldable pub addAccepted : List Call → List Answer → Bool
+addAccepted [] rs = false
+addAccepted (c ∷ cs) [] = false
+addAccepted (c ∷ cs) (r ∷ rs) = (isAdd c && eqb (r .code) 0) || addAccepted cs rs
+
+-- some slot is live
+abbrev pub SomeLive : Ledger → Type 0
+SomeLive l = (k : ℕ) × (1 ≤ k) × (k ≤ 8) × (stateOf (entryOf l k) ≡ enabled)
+
+-- format on an image, then the list of calls on the image that format left
+module _ (table : List Profile) (a : FormatInput) (image : List ℕ) (cs : List Call) where
+  abbrev pub answersGiven : List Answer
+  answersGiven = (run table (format table a image .image) cs) .answers
+
+  abbrev pub lastImage : List ℕ
+  lastImage = (run table (format table a image .image) cs) .image
+
+  -- the ledger fed the same
+  abbrev pub ledgerAnswers : List Answer
+  ledgerAnswers = (enterAll table (startLedger table a image) cs) .answers
+
+  abbrev pub lastLedger : Ledger
+  lastLedger = (enterAll table (startLedger table a image) cs) .ledger
+
+-- ---- the statement
+
+pub record Demand3 (table : List Profile) (a : FormatInput) (image : List ℕ) (cs : List Call) : Type 0 where
+  -- the whole image after the list is the ledger's, byte for byte
+  pub image-is : lastImage table a image cs ≡ ledgerImage table (lastLedger table a image cs)
+  -- every call gave the ledger's answer
+  pub answers-are : answersGiven table a image cs ≡ ledgerAnswers table a image cs
+  -- each live slot opens by its number and passphrase with the key it was added with
+  pub live-opens : (k : ℕ) → 1 ≤ k → k ≤ 8 → (key : List ℕ) (x : SlotInput) → entryOf (lastLedger table a image cs) k ≡ live key x
+      → step table (lastImage table a image cs) (openSlot k (x .passphrase)) .said
+      ≡ record { code = 0; slot = k; keyLength = (profileAt table (a .profile)) .keyBytes; key = key ++ zeros (64 - length key); bytes = [] }
+  -- each written sector reads back under the key of its last writing as it was written
+  pub written-reads : (u : ℕ) → u < length ((lastLedger table a image cs) .sectorEntries) → (key plain : List ℕ)
+      → sectorEntryOf (lastLedger table a image cs) u ≡ lastWriting key plain → (buffer : List ℕ) → length buffer ≡ 512
+      → step table (lastImage table a image cs) (read key u 1 buffer) .said ≡ record { code = 0; slot = 0; keyLength = 0; key = []; bytes = plain }
+  -- two lists that end in one ledger end in one image, also after two different formats
+  pub one-image : (a′ : FormatInput) → FormatTyped a′ → (image′ : List ℕ) → format table a′ image′ .code ≡ 0 → (cs′ : List Call) → AllTyped cs′
+      → lastLedger table a image cs ≡ lastLedger table a′ image′ cs′ → lastImage table a image cs ≡ lastImage table a′ image′ cs′
+  -- after an accepted add some slot is live
+  pub some-live : addAccepted cs (answersGiven table a image cs) ≡ true → SomeLive (lastLedger table a image cs)

@@ -1,0 +1,4 @@
+pub mod Drive
+pub mod Ledger
+pub mod Lawful
+pub mod Demand3

@@ -1,0 +1,71 @@
+-- The small suite obeys the laws of a suite, and its table those of a table.
+use mathlib.Core.Path.{_≡_, refl, ap₂, subst}
+use mathlib.Core.List.{List, [], _∷_}
+use mathlib.Core.Bool.{Bool, true, false, _||_}
+use Prim.Native.Nat.{ℕ, zero, suc, _+_, _%_, _<_}
+use native.Mathlib.Nat.{mod-lt, zero-lt-suc}
+use native.Mathlib.Omega.{arith}
+use lib.Dec.{eqb}
+use lib.ListN.{replicate, length-replicate}
+use borrow.Author.Tests.{eqb-true}
+use Rattle.octets.specs.Octets.{Bytes, Str, _⊕_, zeros, same}
+use Rattle.octets.proofs.XorLaws.{⊕-byte, ⊕-undo}
+use Rattle.octets.proofs.OctetsLaws.{str-map}
+use Rattle.suite.specs.Suite.{LawfulSuite}
+use Rattle.rules.specs.Profiles.{holdsText, fits, numberOf, profileAt, known}
+use Rattle.rules.specs.Format.{padded}
+use Rattle.ledger.specs.Lawful.{LawfulRow, LawfulTable}
+use Rattle.worked.specs.Small.{smallDerive, mask, masked, bumped, smallSuite, smallProfile, smallTable}
+
+bytes-replicate : (n b : ℕ) → b < 256 → Bytes (replicate n b)
+bytes-replicate zero b h = tt
+bytes-replicate (suc n) b h = (h, bytes-replicate n b h)
+
+mask-byte : (key : List ℕ) (u : ℕ) → mask key u < 256
+unfolding mask
+mask-byte key u = mod-lt _ (zero-lt-suc 255)
+
+str-masked : (key : List ℕ) (u n : ℕ) (x : List ℕ) → Str n x → Str n (masked key u x)
+unfolding masked
+str-masked key u n x h = str-map (λ b. b ⊕ mask key u) (λ b hb. ⊕-byte b (mask key u) hb (mask-byte key u)) n x h
+
+masked-masked : (key : List ℕ) (u : ℕ) (x : List ℕ) → masked key u (masked key u x) ≡ x
+unfolding masked
+masked-masked key u [] = refl
+masked-masked key u (b ∷ x) = ap₂ _∷_ (⊕-undo b (mask key u)) (masked-masked key u x)
+
+pub suite-lawful : (L : ℕ) → LawfulSuite smallSuite L
+unfolding smallSuite smallDerive bumped
+suite-lawful L =
+    record {
+      str-derive = λ password salt count n. record { len = length-replicate n _; byte = bytes-replicate n _ (mod-lt _ (zero-lt-suc 255)) };
+      str-diffuse = λ n x h. str-map (λ b. (b + 1) % 256) (λ b hb. mod-lt _ (zero-lt-suc 255)) n x h;
+      str-encipher = λ key hk u n x hn hm hx. str-masked key u n x hx;
+      str-decipher = λ key hk u n x hn hm hx. str-masked key u n x hx;
+      decipher-encipher = λ key hk u n x hn hm hx. masked-masked key u x;
+    }
+
+row-lawful : LawfulRow smallTable 1
+unfolding smallTable smallProfile profileAt holdsText fits numberOf padded zeros same
+row-lawful =
+    record {
+      lawful = suite-lawful 16;
+      blocks = refl;
+      key-least = omega arith;
+      key-most = omega arith;
+      cipher-most = omega arith;
+      mode-most = omega arith;
+      hash-most = omega arith;
+      slot-count = omega arith;
+      sum-count = omega arith;
+      number-least = omega arith;
+      found = refl;
+    }
+
+or-false : (a : Bool) → (a || false) ≡ true → a ≡ true
+or-false true h = refl
+or-false false h = h
+
+pub small-lawful : LawfulTable smallTable
+unfolding smallTable smallProfile known
+small-lawful k h = subst (LawfulRow smallTable) (eqb-true 1 k (or-false (eqb 1 k) h)) row-lawful

@@ -1,0 +1,4 @@
+pub mod Small
+pub mod Worked
+pub mod WorkedOut
+pub mod Real

@@ -88,7 +88,8 @@ writings key zero x = []
 writings key (suc n) x = lastWriting key (take 512 x) ∷ writings key n (drop 512 x)
 
 -- "An accepted add makes its slot live, revoke makes it empty, change does both with the first slot's candidate as key,
--- write replaces sectors, open and read alter nothing"; f are the facts of the ledger before the call
+-- write replaces sectors, open and read alter nothing"
+-- f are the facts of the ledger before the call
 unfoldable pub ledgerAfter : Facts → Call → Ledger → Ledger
 ledgerAfter f (add k key x) l = setSlot l k (live key x)
 ledgerAfter f (change k passphrase to x filler) l = setSlot (setSlot l to (live (candidate f k passphrase) x)) k (empty filler)

@@ -1,0 +1,123 @@
+// The calls for C: each wraps one call and has its contract. host/include/mivrozh.h declares them.
+use header::PayloadUnit;
+use opening::Opened;
+ghost use mathlib.Core.Path.{_≡_};
+ghost use mathlib.Core.List.{_∷_};
+ghost use Rattle.rules.specs.Calls.{add, change, revoke, openSlot, openAny, read, write, bufferAfter};
+ghost use Rattle.rules.specs.Step.{step};
+ghost use Rattle.rules.specs.Format.{format};
+ghost use Rattle.built.specs.Built.{built};
+ghost use Rattle.header.specs.Refusals.{number};
+ghost use Rattle.formatting.specs.Input.{formatInput};
+ghost use Rattle.keyslot.specs.Keyslot.{slotInput};
+
+// An opening as C has it: the number is returned, and slot, key length and the 64 key bytes are laid in the buffer.
+fn give(opened: &mut [u8; 66], o: Opened) -> u8
+    ensures { λ r. ⌜ (r ≡ number (o .refusal)) × (now (opened .exit) ≡ o .slot ∷ o .«key_length» ∷ o .key) ⌝ }
+{
+    let key = o.key;
+    let r = o.refusal;
+    octets::copy_into(opened, 0, &[o.slot, o.key_length]);
+    octets::copy_into(opened, 2, &key);
+    header::number_of(r)
+}
+
+#[no_mangle]
+pub extern "C" fn mivrozh_format(
+    image: &mut [u8],
+    profile: u8,
+    stripes: u32,
+    key: &[u8],
+    salt: &[u8; 32],
+    count: u32,
+    uuid: &[u8],
+) -> u8
+    ensures code { λ r. ⌜ r ≡ format built (formatInput profile stripes (now (key .entry)) (now (salt .entry)) count (now (uuid .entry))) (now (image .entry)) .code ⌝ }
+    ensures image { λ _. ⌜ now (image .exit) ≡ format built (formatInput profile stripes (now (key .entry)) (now (salt .entry)) count (now (uuid .entry))) (now (image .entry)) .image ⌝ }
+{
+    header::number_of(formatting::format(image, profile, stripes, key, salt, count, uuid))
+}
+
+#[no_mangle]
+pub extern "C" fn mivrozh_add(
+    image: &mut [u8],
+    slot: u8,
+    key: &[u8],
+    passphrase: &[u8],
+    salt: &[u8; 32],
+    count: u32,
+    random: &[u8],
+) -> u8
+    ensures { λ r. ⌜ (r ≡ step built (now (image .entry)) (add slot (now (key .entry)) (slotInput (now (passphrase .entry)) (now (salt .entry)) count (now (random .entry)))) .said .code) × (now (image .exit) ≡ step built (now (image .entry)) (add slot (now (key .entry)) (slotInput (now (passphrase .entry)) (now (salt .entry)) count (now (random .entry)))) .image) ⌝ }
+{
+    header::number_of(adding::add(image, slot, key, passphrase, salt, count, random))
+}
+
+#[no_mangle]
+pub extern "C" fn mivrozh_open_slot(
+    image: &[u8],
+    slot: u8,
+    passphrase: &[u8],
+    opened: &mut [u8; 66],
+) -> u8
+    ensures { λ r. ⌜ (r ≡ step built (now (image .entry)) (openSlot slot (now (passphrase .entry))) .said .code) × (now (opened .exit) ≡ step built (now (image .entry)) (openSlot slot (now (passphrase .entry))) .said .slot ∷ step built (now (image .entry)) (openSlot slot (now (passphrase .entry))) .said .keyLength ∷ step built (now (image .entry)) (openSlot slot (now (passphrase .entry))) .said .key) ⌝ }
+{
+    give(opened, opening::open_slot(image, slot, passphrase))
+}
+
+#[no_mangle]
+pub extern "C" fn mivrozh_open(image: &[u8], passphrase: &[u8], opened: &mut [u8; 66]) -> u8
+    ensures { λ r. ⌜ (r ≡ step built (now (image .entry)) (openAny (now (passphrase .entry))) .said .code) × (now (opened .exit) ≡ step built (now (image .entry)) (openAny (now (passphrase .entry))) .said .slot ∷ step built (now (image .entry)) (openAny (now (passphrase .entry))) .said .keyLength ∷ step built (now (image .entry)) (openAny (now (passphrase .entry))) .said .key) ⌝ }
+{
+    give(opened, opening::open(image, passphrase))
+}
+
+#[no_mangle]
+pub extern "C" fn mivrozh_change(
+    image: &mut [u8],
+    from: u8,
+    old: &[u8],
+    to: u8,
+    new: &[u8],
+    salt: &[u8; 32],
+    count: u32,
+    random: &[u8],
+    filler: &[u8],
+) -> u8
+    ensures { λ r. ⌜ (r ≡ step built (now (image .entry)) (change from (now (old .entry)) to (slotInput (now (new .entry)) (now (salt .entry)) count (now (random .entry))) (now (filler .entry))) .said .code) × (now (image .exit) ≡ step built (now (image .entry)) (change from (now (old .entry)) to (slotInput (now (new .entry)) (now (salt .entry)) count (now (random .entry))) (now (filler .entry))) .image) ⌝ }
+{
+    header::number_of(changing::change(image, from, old, to, new, salt, count, random, filler))
+}
+
+#[no_mangle]
+pub extern "C" fn mivrozh_revoke(image: &mut [u8], slot: u8, filler: &[u8]) -> u8
+    ensures { λ r. ⌜ (r ≡ step built (now (image .entry)) (revoke slot (now (filler .entry))) .said .code) × (now (image .exit) ≡ step built (now (image .entry)) (revoke slot (now (filler .entry))) .image) ⌝ }
+{
+    header::number_of(revoking::revoke(image, slot, filler))
+}
+
+#[no_mangle]
+pub extern "C" fn mivrozh_read(
+    image: &[u8],
+    key: &[u8],
+    first: u64,
+    units: u64,
+    buffer: &mut [u8],
+) -> u8
+    ensures { λ r. ⌜ (r ≡ step built (now (image .entry)) (read (now (key .entry)) first units (now (buffer .entry))) .said .code) × (now (buffer .exit) ≡ bufferAfter (step built (now (image .entry)) (read (now (key .entry)) first units (now (buffer .entry))) .said) (now (buffer .entry))) ⌝ }
+{
+    header::number_of(payload::read(image, key, PayloadUnit(first), units, buffer))
+}
+
+#[no_mangle]
+pub extern "C" fn mivrozh_write(
+    image: &mut [u8],
+    key: &[u8],
+    first: u64,
+    units: u64,
+    buffer: &[u8],
+) -> u8
+    ensures { λ r. ⌜ (r ≡ step built (now (image .entry)) (write (now (key .entry)) first units (now (buffer .entry))) .said .code) × (now (image .exit) ≡ step built (now (image .entry)) (write (now (key .entry)) first units (now (buffer .entry))) .image) ⌝ }
+{
+    header::number_of(payload::write(image, key, PayloadUnit(first), units, buffer))
+}

@@ -1,0 +1,57 @@
+//! Our drives in memory, made and used by the library's calls.
+
+use mivrozh::raw;
+
+pub const PASSPHRASE: &[u8] = b"passphrase";
+const SALT: [u8; 32] = [7; 32];
+
+pub struct Drive {
+    pub image: Vec<u8>,
+    pub key: Vec<u8>,
+}
+
+fn accepted(call: &str, number: u8) -> Result<(), String> {
+    if number == 0 {
+        Ok(())
+    } else {
+        Err(format!("{call} is refused by {number}"))
+    }
+}
+
+impl Drive {
+    /// A drive with one stripe a slot, so that nothing but derivations takes time, and so many payload units. Slot 1
+    /// has this count.
+    pub fn new(bits: usize, count: u32, units: usize) -> Result<Drive, String> {
+        let key: Vec<u8> = (0..bits as u32 / 8).map(|i| i as u8).collect();
+        let mut image = vec![0x5a; (65 + units) * 512];
+        accepted("format", raw::format(&mut image, (bits / 256) as u8, 1, &key, &SALT, 1000, &[b'u'; 36]))?;
+        accepted("add", raw::add(&mut image, 1, &key, PASSPHRASE, &SALT, count, &[]))?;
+        Ok(Drive { image, key })
+    }
+
+    pub fn open(&self) -> Result<(), String> {
+        open(&self.image, PASSPHRASE).map(|_| ())
+    }
+
+    pub fn read(&self, units: usize, buffer: &mut [u8]) -> Result<(), String> {
+        accepted("read", raw::read(&self.image, &self.key, 0, units as u64, &mut buffer[..units * 512]))
+    }
+
+    pub fn write(&mut self, units: usize, buffer: &[u8]) -> Result<(), String> {
+        accepted("write", raw::write(&mut self.image, &self.key, 0, units as u64, &buffer[..units * 512]))
+    }
+}
+
+/// The key that the passphrase opens.
+pub fn open(image: &[u8], passphrase: &[u8]) -> Result<Vec<u8>, String> {
+    let mut opened = [0; 66];
+    accepted("open", raw::open(image, passphrase, &mut opened))?;
+    Ok(opened[2..2 + opened[1] as usize].to_vec())
+}
+
+/// What luksAddKey does: opens with one passphrase, and puts the key under another into slot 2.
+pub fn open_and_add(image: &[u8], passphrase: &[u8], new: &[u8], count: u32, random: &[u8]) -> Result<(), String> {
+    let mut changed = image.to_vec();
+    let key = open(image, passphrase)?;
+    accepted("add", raw::add(&mut changed, 2, &key, new, &SALT, count, random))
+}

@@ -1,0 +1,162 @@
+//! The help texts.
+
+pub const TOOL: &str = "\
+mivrozh: LUKS version 1 drives in image files
+
+Usage: mivrozh COMMAND [OPTIONS] IMAGE
+
+Commands:
+  format   make a new drive with a random master key and a first passphrase
+  add      add a passphrase
+  change   change a passphrase
+  revoke   remove a passphrase
+  test     say which key slot a passphrase opens
+  read     decipher units of the payload into a file
+  write    encipher a file into units of the payload
+
+'mivrozh COMMAND --help' says more about each, with an example.
+
+IMAGE is a file or a block device that holds a whole drive. A passphrase is read from a key file (--key-file, every byte
+of it, a newline too; '-' is standard input), or asked for at the terminal; it is never an argument. A drive has eight key
+slots, 1 to 8, with one passphrase each. A unit of the payload is 512 bytes.
+
+A drive is changed under a lock, sector by sector, so that a cut leaves it open to the old or to the new passphrase.
+
+Exit status:
+   0       done
+   1 to 20 refused; the message says why and what to do, and nothing was changed (but see 'mivrozh write --help')
+  64       wrong usage
+  65       wrong input: passphrases that differ, data that is no whole number of units
+  66       a file that is missing or cannot be read
+  73       a file that cannot be opened for writing, or that is there already
+  74       reading or writing failed on the way, as on a full disk
+  75       another program is using the image
+
+Example:
+  truncate -s 64M drive.img
+  mivrozh format drive.img
+  mivrozh test drive.img
+";
+
+pub const FORMAT: &str = "\
+mivrozh format: make a new drive
+
+Usage: mivrozh format [OPTIONS] IMAGE
+
+Makes a random master key, writes a new header and puts the key under a first passphrase into key slot 1. The file must be
+there and be long enough: 2,066,944 bytes and the payload with the default values. The payload keeps its bytes. What an older
+drive in the file held can be opened no more; before that is overwritten you are asked.
+
+Options:
+  --key-size BITS    256 or 512 (default 512)
+  --iterations N     how often each derivation is iterated, 1000 or more (default 500000)
+  --stripes N        stripes of each key slot, 1 to 4000 (default 4000; other tools read no others)
+  --uuid TEXT        36 characters (default: a random UUID)
+  --key-file FILE    the passphrase; without it you are asked, twice
+  --force            overwrite an older drive without asking
+
+Example:
+  truncate -s 64M drive.img
+  mivrozh format --key-size 256 drive.img
+";
+
+pub const ADD: &str = "\
+mivrozh add: add a passphrase
+
+Usage: mivrozh add [OPTIONS] IMAGE
+
+Opens the drive with a passphrase that it has, and puts its key under a new one into a free key slot.
+
+Options:
+  --slot N               the key slot, 1 to 8 (default: the first free one)
+  --iterations N         how often the derivation is iterated, 1000 or more (default 500000)
+  --key-file FILE        a passphrase that the drive has; without it you are asked
+  --new-key-file FILE    the new passphrase; without it you are asked, twice
+
+Example:
+  mivrozh add --slot 2 --new-key-file second.key drive.img
+";
+
+pub const CHANGE: &str = "\
+mivrozh change: change a passphrase
+
+Usage: mivrozh change [OPTIONS] IMAGE
+
+Opens a key slot with its passphrase, puts the key under the new passphrase into a free slot, and then revokes the first. So
+a free slot is needed, and the passphrase has another slot afterwards.
+
+Options:
+  --slot N               the key slot to change (default: the first that the passphrase opens)
+  --to N                 the key slot for the new passphrase (default: the first free one)
+  --iterations N         how often the derivation is iterated, 1000 or more (default 500000)
+  --key-file FILE        the old passphrase; without it you are asked
+  --new-key-file FILE    the new passphrase; without it you are asked, twice
+
+Example:
+  mivrozh change --slot 1 --to 2 drive.img
+";
+
+pub const REVOKE: &str = "\
+mivrozh revoke: remove a passphrase
+
+Usage: mivrozh revoke --slot N IMAGE
+
+Overwrites the slot's area with random bytes and disables the slot. No passphrase is asked for. The last slot in use is not
+revoked.
+
+Options:
+  --slot N    the key slot, 1 to 8
+
+Example:
+  mivrozh revoke --slot 2 drive.img
+";
+
+pub const TEST: &str = "\
+mivrozh test: say which key slot a passphrase opens
+
+Usage: mivrozh test [OPTIONS] IMAGE
+
+Tries the enabled key slots from 1 to 8, prints the first that opens, and changes nothing.
+
+Options:
+  --slot N           try this key slot only
+  --key-file FILE    the passphrase; without it you are asked
+
+Example:
+  mivrozh test --key-file first.key drive.img
+";
+
+pub const READ: &str = "\
+mivrozh read: decipher units of the payload
+
+Usage: mivrozh read [OPTIONS] --out FILE IMAGE
+
+Options:
+  --first N          the first unit, counted from 0 (default 0)
+  --units N          how many units of 512 bytes (default: all up to the end)
+  --out FILE         where the plain bytes go; '-' is standard output
+  --force            overwrite the file if it is there
+  --slot N           open this key slot only
+  --key-file FILE    the passphrase; without it you are asked
+
+Example:
+  mivrozh read --first 0 --units 2048 --out plain.img drive.img
+";
+
+pub const WRITE: &str = "\
+mivrozh write: encipher data into units of the payload
+
+Usage: mivrozh write [OPTIONS] --in FILE IMAGE
+
+The data must be a whole number of units of 512 bytes. They are written in rising order; where they come from standard input
+and end or fail early, the units before are written.
+
+Options:
+  --first N          the first unit, counted from 0 (default 0)
+  --in FILE          the plain bytes; '-' is standard input
+  --slot N           open this key slot only
+  --key-file FILE    the passphrase; without it you are asked
+
+Example:
+  mivrozh write --first 0 --in plain.img drive.img
+";

@@ -1,0 +1,226 @@
+//! Every command as a user uses it, with key files.
+mod common;
+use common::*;
+use std::io::Write;
+use std::os::unix::fs::PermissionsExt;
+use std::process::Stdio;
+use std::time::{Duration, Instant};
+
+const STATE: usize = 208;
+
+// Whether the header says that the slot is enabled.
+fn enabled(image: &[u8], slot: usize) -> bool {
+    image[STATE + 48 * (slot - 1)..][..4] == [0x00, 0xAC, 0x71, 0xF3]
+}
+
+#[test]
+fn the_life_of_a_drive() {
+    let folder = Folder::with_drive();
+    assert_eq!(folder.line("test --key-file one drive").accepted().out, "key slot 1 opens\n");
+    folder.line("add --iterations 1000 --key-file one --new-key-file two --slot 7 drive").accepted();
+    let said = folder.line("test --key-file two drive").accepted();
+    assert_eq!(said.out, "key slot 7 opens\n");
+
+    folder.put("plain", pattern(PAYLOAD_UNITS * 512));
+    folder.line("write --key-file two --in plain drive").accepted();
+    folder.line("change --iterations 1000 --key-file one --new-key-file three drive").accepted();
+    assert!(!folder.opens("one") && folder.opens("two"));
+    assert_eq!(folder.line("test --key-file three drive").accepted().out, "key slot 2 opens\n");
+    folder.line("revoke --slot 7 drive").accepted();
+    assert!(!folder.opens("two"));
+
+    folder.line("read --key-file three --out back drive").accepted();
+    assert_eq!(folder.get("back"), folder.get("plain"));
+    assert_ne!(folder.get("drive")[PAYLOAD_START * 512..], folder.get("plain"));
+}
+
+#[test]
+fn format_has_a_first_passphrase_and_keeps_the_payload() {
+    let folder = Folder::with_drive();
+    let image = folder.get("drive");
+    assert_eq!(image[PAYLOAD_START * 512..], pattern(LENGTH)[PAYLOAD_START * 512..]);
+    assert!(enabled(&image, 1) && (2..=8).all(|slot| !enabled(&image, slot)));
+    assert_eq!(image[108..112], 64u32.to_be_bytes());
+}
+
+#[test]
+fn format_takes_its_options() {
+    let folder = Folder::with_drive();
+    folder.put("new", vec![0; 70 * 512]);
+    let uuid = "6a2b1f0e-3c4d-4e5f-8a9b-0c1d2e3f4a5b";
+    folder
+        .line(&format!("format --key-size 256 --iterations=2000 --stripes 16 --uuid {uuid} --key-file one new"))
+        .accepted();
+    let image = folder.get("new");
+    assert_eq!(image[104..112], [0, 0, 0, 66, 0, 0, 0, 32], "payload start and key bytes");
+    assert_eq!(image[164..168], 2000u32.to_be_bytes(), "checksum count");
+    assert_eq!(&image[168..204], uuid.as_bytes());
+    assert_eq!(image[212..216], 2000u32.to_be_bytes(), "the slot's count");
+    assert_eq!(image[252..256], 16u32.to_be_bytes(), "the slot's stripes");
+}
+
+#[test]
+fn format_has_sound_defaults() {
+    let folder = Folder::with_drive();
+    folder.put("new", vec![0; 4037 * 512]);
+    folder.line("format --key-file one new").accepted();
+    let image = folder.get("new");
+    assert_eq!(image[104..112], [0, 0, 0x0F, 0xC5, 0, 0, 0, 64], "payload start and key bytes");
+    assert_eq!(image[212..216], 500_000u32.to_be_bytes(), "the slot's count");
+    assert_eq!(image[252..256], 4000u32.to_be_bytes(), "the slot's stripes");
+    assert_eq!(folder.line("test --key-file one new").accepted().out, "key slot 1 opens\n");
+}
+
+#[test]
+fn format_makes_another_key_each_time() {
+    let (one, two) = (Folder::with_drive(), Folder::with_drive());
+    let (one, two) = (one.get("drive"), two.get("drive"));
+    assert_ne!(one[112..132], two[112..132], "checksum");
+    assert_ne!(one[132..164], two[132..164], "checksum salt");
+    assert_ne!(one[168..204], two[168..204], "UUID");
+    assert_ne!(one[216..248], two[216..248], "the slot's salt");
+    assert_ne!(one[8 * 512..9 * 512], two[8 * 512..9 * 512], "the slot's area");
+}
+
+#[test]
+fn format_over_a_drive_needs_force() {
+    let folder = Folder::with_drive();
+    let before = folder.get("drive");
+    let line = format!("format --iterations 1000 --stripes {STRIPES} --key-file two drive");
+    folder.line(&line).failed(64, "--force");
+    assert_eq!(folder.get("drive"), before);
+    folder.line(&format!("{line} --force")).accepted();
+    assert!(folder.opens("two") && !folder.opens("one"));
+}
+
+#[test]
+fn add_uses_the_first_free_slot() {
+    let folder = Folder::with_drive();
+    for slot in 2..=8 {
+        let before = folder.get("drive");
+        let said = folder.line("add --iterations 1000 --key-file one --new-key-file two drive").accepted();
+        assert_eq!(said.out, format!("key slot {slot} holds the new passphrase\n"));
+        let changed = changed_sectors(&before, &folder.get("drive"));
+        assert!(changed.iter().all(|&sector| sector < 2 || area(slot).contains(&sector)), "{changed:?}");
+        assert!(area(slot).all(|sector| changed.contains(&sector)), "{changed:?}");
+        assert_eq!(
+            folder.line(&format!("test --slot {slot} --key-file two drive")).accepted().out,
+            format!("key slot {slot} opens\n")
+        );
+    }
+    let before = folder.get("drive");
+    folder.line("add --key-file one --new-key-file two drive").refused(15, "every key slot is in use; revoke one");
+    folder.line("change --key-file one --new-key-file two drive").refused(15, "every key slot is in use; revoke one");
+    assert_eq!(folder.get("drive"), before);
+}
+
+#[test]
+fn change_by_number_and_by_search() {
+    let folder = Folder::with_drive();
+    folder.line("add --iterations 1000 --slot 3 --key-file one --new-key-file one drive").accepted();
+    let said =
+        folder.line("change --iterations 1000 --slot 3 --to 8 --key-file one --new-key-file two drive").accepted();
+    assert_eq!(said.out, "key slot 8 holds the new passphrase, and key slot 3 is free\n");
+    folder.line("test --slot 1 --key-file one drive").accepted();
+    let said = folder.line("change --iterations 1000 --key-file one --new-key-file three drive").accepted();
+    assert_eq!(said.out, "key slot 2 holds the new passphrase, and key slot 1 is free\n");
+    assert!(!folder.opens("one") && folder.opens("two") && folder.opens("three"));
+    let image = folder.get("drive");
+    let slots: Vec<usize> = (1..=8).filter(|&slot| enabled(&image, slot)).collect();
+    assert_eq!(slots, [2, 8]);
+}
+
+#[test]
+fn revoke_overwrites_the_area() {
+    let folder = Folder::with_drive();
+    folder.line("add --iterations 1000 --key-file one --new-key-file two drive").accepted();
+    let before = folder.get("drive");
+    folder.line("revoke --slot 1 drive").accepted();
+    let after = folder.get("drive");
+    let changed = changed_sectors(&before, &after);
+    assert_eq!(changed, [0].into_iter().chain(area(1)).collect::<Vec<_>>());
+    assert!(!enabled(&after, 1));
+    assert!(!folder.opens("one") && folder.opens("two"));
+}
+
+#[test]
+fn read_and_write_some_units() {
+    let folder = Folder::with_drive();
+    folder.line("read --key-file one --out all drive").accepted();
+    let mut all = folder.get("all");
+    assert_eq!(all.len(), PAYLOAD_UNITS * 512);
+    folder.put("two units", vec![7; 1024]);
+    let before = folder.get("drive");
+    folder.run(["write", "--key-file", "one", "--first", "3", "--in", "two units", "drive"]).accepted();
+    assert_eq!(changed_sectors(&before, &folder.get("drive")), [PAYLOAD_START + 3, PAYLOAD_START + 4]);
+    all[3 * 512..5 * 512].fill(7);
+    folder.line("read --key-file one --first 2 --units 4 --out some drive").accepted();
+    assert_eq!(folder.get("some"), all[2 * 512..6 * 512]);
+    let mode = folder.path("some").metadata().expect("a file").permissions().mode();
+    assert_eq!(mode & 0o077, 0, "plain bytes are for their owner only");
+    folder.line(&format!("read --key-file one --first {PAYLOAD_UNITS} --out nothing drive")).accepted();
+    assert_eq!(folder.get("nothing"), b"");
+}
+
+#[test]
+fn read_and_write_through_pipes() {
+    let folder = Folder::with_drive();
+    let plain = pattern(PAYLOAD_UNITS * 512);
+    let arguments = ["write", "--key-file", "one", "--in", "-", "drive"];
+    let mut child = tool()
+        .args(arguments)
+        .current_dir(folder.path(""))
+        .stdin(Stdio::piped())
+        .stdout(Stdio::piped())
+        .spawn()
+        .expect("the tool runs");
+    child.stdin.take().expect("a pipe").write_all(&plain).expect("the tool reads");
+    assert!(child.wait().expect("the tool ends").success());
+    let output =
+        tool().args(["read", "--key-file", "one", "--out", "-", "drive"]).current_dir(folder.path("")).output();
+    assert_eq!(output.expect("the tool runs").stdout, plain);
+}
+
+#[test]
+fn a_key_file_counts_with_every_byte() {
+    let folder = Folder::with_drive();
+    folder.put("newline", "passphrase one\n");
+    assert!(folder.opens("one") && !folder.opens("newline"));
+    let input = std::fs::File::open(folder.path("one")).expect("a file");
+    let said = said(tool().args(["test", "--key-file", "-", "drive"]).current_dir(folder.path("")).stdin(input));
+    assert_eq!(said.accepted().out, "key slot 1 opens\n");
+    folder.put("bytes", [0, 255, 10, 13]);
+    folder.line("add --iterations 1000 --key-file one --new-key-file bytes drive").accepted();
+    assert!(folder.opens("bytes"));
+}
+
+// A drive of 256 GiB: it is mapped, since reading it would take minutes and memory that is not there.
+#[test]
+fn a_huge_image_is_not_read_whole() {
+    let folder = Folder::with_drive();
+    let file = std::fs::File::create(folder.path("huge")).expect("a file");
+    let length: u64 = 256 << 30;
+    file.set_len(length).expect("a file with a hole");
+    let start = Instant::now();
+    folder.line("format --iterations 1000 --key-file one huge").accepted();
+    let last = length / 512 - 4037 - 1;
+    folder.put("unit", pattern(512));
+    folder.line(&format!("write --key-file one --first {last} --in unit huge")).accepted();
+    folder.line(&format!("read --key-file one --first {last} --out back huge")).accepted();
+    assert_eq!(folder.get("back"), pattern(512));
+    assert!(start.elapsed() < Duration::from_secs(20));
+}
+
+#[test]
+fn help_for_each_command_with_an_example() {
+    let folder = Folder::new();
+    let tool_help = folder.line("--help").accepted().out;
+    assert!(tool_help.contains("Example:"));
+    for name in ["format", "add", "change", "revoke", "test", "read", "write"] {
+        assert!(tool_help.contains(&format!("\n  {name} ")), "{name}");
+        let help = folder.line(&format!("{name} --help")).accepted().out;
+        assert!(help.starts_with(&format!("mivrozh {name}: ")), "{help}");
+        assert!(help.contains("\nExample:\n") && help.contains(&format!("  mivrozh {name} ")), "{help}");
+    }
+    assert!(folder.line("--version").accepted().out.starts_with("mivrozh "));
+}

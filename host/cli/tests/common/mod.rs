@@ -1,0 +1,165 @@
+//! What the tests of the tool share: a folder of their own, the tool run as a user runs it, small drives.
+#![allow(dead_code)]
+use std::ffi::OsStr;
+use std::fs;
+use std::os::unix::process::{CommandExt, ExitStatusExt};
+use std::path::{Path, PathBuf};
+use std::process::{Command, Output, Stdio};
+use std::sync::atomic::{AtomicUsize, Ordering};
+
+/// Key areas of 40 stripes of 64 bytes: 5 sectors each, from sector 8 on every 8 sectors. The payload follows area 8.
+pub const STRIPES: &str = "40";
+pub const AREA_SECTORS: usize = 5;
+pub const PAYLOAD_START: usize = 70;
+pub const PAYLOAD_UNITS: usize = 16;
+pub const LENGTH: usize = (PAYLOAD_START + PAYLOAD_UNITS) * 512;
+
+extern "C" {
+    fn setsid() -> i32;
+}
+
+/// The tool, in a session of its own: the terminal of whoever runs the tests is not its terminal.
+pub fn tool() -> Command {
+    tool_at(Path::new(env!("CARGO_BIN_EXE_mivrozh")))
+}
+
+/// A copy of the tool, likewise.
+pub fn tool_at(program: &Path) -> Command {
+    let mut command = Command::new(program);
+    command.stdin(Stdio::null());
+    // SAFETY: setsid may be called between fork and exec.
+    unsafe {
+        command.pre_exec(|| match setsid() {
+            -1 => Err(std::io::Error::last_os_error()),
+            _ => Ok(()),
+        });
+    }
+    command
+}
+
+/// A folder that is removed with its test.
+pub struct Folder(PathBuf);
+
+impl Folder {
+    pub fn new() -> Folder {
+        static COUNT: AtomicUsize = AtomicUsize::new(0);
+        let number = COUNT.fetch_add(1, Ordering::Relaxed);
+        let path = std::env::temp_dir().join(format!("mivrozh-test-{}-{number}", std::process::id()));
+        fs::create_dir(&path).expect("a folder for the test");
+        Folder(path)
+    }
+
+    pub fn path(&self, name: impl AsRef<Path>) -> PathBuf {
+        self.0.join(name)
+    }
+
+    pub fn put(&self, name: &str, bytes: impl AsRef<[u8]>) -> PathBuf {
+        fs::write(self.path(name), bytes).expect("a file in the test's folder");
+        self.path(name)
+    }
+
+    pub fn get(&self, name: &str) -> Vec<u8> {
+        fs::read(self.path(name)).expect("a file of the test's folder")
+    }
+
+    /// Runs the tool in the folder.
+    pub fn run<S: AsRef<OsStr>>(&self, arguments: impl IntoIterator<Item = S>) -> Said {
+        said(tool().args(arguments).current_dir(&self.0))
+    }
+
+    /// Runs the tool with the words of a line.
+    pub fn line(&self, line: &str) -> Said {
+        self.run(line.split_whitespace())
+    }
+
+    /// A folder with key files `one`, `two`, `three`, and a small drive `drive` whose slot 1 has the passphrase of `one`.
+    pub fn with_drive() -> Folder {
+        let folder = Folder::new();
+        for name in ["one", "two", "three"] {
+            folder.put(name, format!("passphrase {name}"));
+        }
+        folder.put("drive", pattern(LENGTH));
+        folder.line(&format!("format --iterations 1000 --stripes {STRIPES} --key-file one drive")).accepted();
+        folder
+    }
+
+    /// The exit status of a test with the key file.
+    pub fn opens(&self, key_file: &str) -> bool {
+        let said = self.line(&format!("test --key-file {key_file} drive"));
+        assert!([0, 17].contains(&said.status), "{said:?}");
+        said.status == 0
+    }
+}
+
+impl Drop for Folder {
+    fn drop(&mut self) {
+        let _ = fs::remove_dir_all(&self.0);
+    }
+}
+
+#[derive(Debug)]
+pub struct Said {
+    pub status: i32,
+    pub out: String,
+    pub err: String,
+}
+
+impl Said {
+    #[track_caller]
+    pub fn accepted(self) -> Said {
+        assert_eq!((self.status, self.err.as_str()), (0, ""), "{}", self.out);
+        self
+    }
+
+    /// It failed with this status, said so in one line that has these words, and printed nothing else.
+    #[track_caller]
+    pub fn failed(self, status: i32, words: &str) -> Said {
+        assert_eq!(self.status, status, "{}", self.err);
+        assert!(self.err.starts_with("mivrozh: ") && self.err.contains(words), "'{words}' is not in: {}", self.err);
+        assert_eq!(self.err.lines().count(), 1, "{}", self.err);
+        assert_eq!(self.out, "");
+        self
+    }
+
+    /// It was refused with this number, and the message has the number and these words.
+    #[track_caller]
+    pub fn refused(self, number: i32, words: &str) -> Said {
+        assert!(self.err.starts_with(&format!("mivrozh: refusal {number}")), "{}: {}", self.status, self.err);
+        self.failed(number, words)
+    }
+}
+
+pub fn said(command: &mut Command) -> Said {
+    let output = command.output().expect("the tool runs");
+    of_output(output)
+}
+
+pub fn of_output(output: Output) -> Said {
+    let status = output.status.code().unwrap_or_else(|| -output.status.signal().unwrap_or(0));
+    let text = |bytes: Vec<u8>| String::from_utf8_lossy(&bytes).into_owned();
+    Said { status, out: text(output.stdout), err: text(output.stderr) }
+}
+
+/// Bytes that look random, the same each time.
+pub fn pattern(length: usize) -> Vec<u8> {
+    let mut state = 0x9E37_79B9_7F4A_7C15u64;
+    let mut next = || {
+        state ^= state << 13;
+        state ^= state >> 7;
+        state ^= state << 17;
+        (state >> 24) as u8
+    };
+    (0..length).map(|_| next()).collect()
+}
+
+/// The sectors in which two images differ.
+pub fn changed_sectors(before: &[u8], after: &[u8]) -> Vec<usize> {
+    assert_eq!(before.len(), after.len());
+    let pairs = before.chunks(512).zip(after.chunks(512));
+    pairs.enumerate().filter(|(_, (old, new))| old != new).map(|(sector, _)| sector).collect()
+}
+
+/// The sectors of a slot's area.
+pub fn area(slot: usize) -> std::ops::Range<usize> {
+    8 * slot..8 * slot + AREA_SECTORS
+}

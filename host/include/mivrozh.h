@@ -1,0 +1,135 @@
+/*
+ * mivrozh.h: LUKS version 1 drives (cipher aes, mode xts-plain64, hash sha1, keys of 256 or 512 bits).
+ *
+ * Every call works on one image that the caller lends: the header, the eight key areas and the payload of a drive, from its
+ * first byte. Link with libcapi.a. The library needs memcpy and memset, has no global state, allocates nothing and makes no
+ * system call; the stack of a call stays below 8 KiB. Calls on different images may run at the same time.
+ *
+ * RESULT. 0: accepted. Else the number of the first check that failed, in the order each call lists; then image and buffers
+ * are as they were before, and an opening has filled its buffer with zeros.
+ *
+ * WHAT THE CALLER OWES.
+ *   - A pointer with a length n points to n readable bytes (writable ones where it is not const). Where the length is 0 any
+ *     pointer will do, also NULL. A salt is 32 bytes, an `opened` 66: these pointers are never NULL.
+ *   - A buffer that is written overlaps no other argument.
+ *   - Master key, salts and random bytes come from a good source of randomness, such as getrandom(2), and no salt is used
+ *     twice. Filler is better random too.
+ *   - Keys, passphrases, random bytes and `opened` are wiped by their owner. A call leaves parts of keys in the stack below
+ *     its caller; wipe that too (8 KiB) where it matters. The Rust binding does.
+ *   - A changed image is written back to the disk in an order that a loss of power survives: key area, then sector 1, then
+ *     sector 0. Before a changed slot's old area is overwritten on the disk, the new slot is there whole and enabled.
+ *
+ * COST. A derivation is PBKDF2-HMAC-SHA1 over a slot's iteration count, done for each 20 bytes of its result: 2 times the
+ * count for a key of 32 bytes, 4 times for one of 64, once for the 20 bytes of the key's checksum. It is what takes the time.
+ * A check before 17 derives nothing.
+ *
+ * NUMBERS. L is the length of the drive's master key, 32 or 64 bytes; n is a slot's number of stripes.
+ *    1  image below 1,024 bytes or no multiple of 512
+ *    2  no LUKS magic
+ *    3  not version 1
+ *    4  no profile has the header's cipher, mode, hash and key length
+ *    5  checksum count 0, or a slot with another state, with stripes outside 1 to 4,000, or enabled with count 0
+ *    6  payload start beyond the image, or an area that begins before sector 2, passes the payload start or shares a byte
+ *       with another
+ *    7  profile unknown
+ *    8  stripes outside 1 to 4,000
+ *    9  key length not L
+ *   10  count below 1,000
+ *   11  UUID not 36 bytes of 33 to 126
+ *   12  image shorter than the payload start
+ *   13  slot not 1 to 8
+ *   14  passphrase not 1 to 512 bytes
+ *   15  slot enabled where a free one is needed, or disabled where one in use is
+ *   16  random bytes not (n - 1) * L, or filler not n * L
+ *   17  the key's checksum differs from the header's: wrong key or passphrase
+ *   18  no other slot is enabled
+ *   19  first + units exceeds the payload
+ *   20  buffer not 512 * units bytes
+ * "Header" below stands for the checks 1, 2, 3, 4, 5, 6.
+ */
+#ifndef MIVROZH_H
+#define MIVROZH_H
+
+#include <stddef.h>
+#include <stdint.h>
+
+#ifdef __cplusplus
+extern "C" {
+#endif
+
+/*
+ * Makes a new drive: zeros everything before the payload, then writes the header. All slots are free, so add a passphrase at
+ * once. The payload keeps its bytes.
+ *   profile  1: L is 32; 2: L is 64
+ *   stripes  of every slot; other tools read 4,000 only
+ *   key      the new master key, L bytes
+ *   salt     of the key's checksum; count: its iterations
+ *   uuid     36 bytes without a zero at the end
+ * Refusals, in order: 1, 7, 8, 9, 10, 11, 12.
+ * Cost: one derivation of 20 bytes.
+ */
+uint8_t mivrozh_format(uint8_t *image, size_t image_len, uint8_t profile, uint32_t stripes, const uint8_t *key, size_t key_len,
+                       const uint8_t salt[32], uint32_t count, const uint8_t *uuid, size_t uuid_len);
+
+/*
+ * Puts the master key under a passphrase into a free slot: splits it into n stripes, enciphers them into the slot's area
+ * under a key derived from the passphrase, and enables the slot.
+ *   random   (n - 1) * L bytes, the stripes but the last
+ * Refusals, in order: header, 13, 15 (slot enabled), 9, 14, 10, 16, 17.
+ * Cost: one derivation of 20 bytes with the header's count, and one of L bytes with `count`.
+ */
+uint8_t mivrozh_add(uint8_t *image, size_t image_len, uint8_t slot, const uint8_t *key, size_t key_len, const uint8_t *passphrase,
+                    size_t passphrase_len, const uint8_t salt[32], uint32_t count, const uint8_t *random, size_t random_len);
+
+/*
+ * Opens one slot: recovers the master key that its area holds under the passphrase.
+ *   opened   slot, L, and the key followed by zeros to 64 bytes; 66 zeros where refused
+ * Refusals, in order: header, 13, 14, 15 (slot disabled), 17.
+ * Cost: one derivation of L bytes with the slot's count, and one of 20 bytes with the header's.
+ */
+uint8_t mivrozh_open_slot(const uint8_t *image, size_t image_len, uint8_t slot, const uint8_t *passphrase, size_t passphrase_len, uint8_t opened[66]);
+
+/*
+ * Opens the first slot, from 1 to 8, that the passphrase opens. `opened` as above.
+ * Refusals, in order: header, 14, 17 (no enabled slot opens, or none is enabled).
+ * Cost: that of mivrozh_open_slot for each enabled slot up to the one that opens.
+ */
+uint8_t mivrozh_open(const uint8_t *image, size_t image_len, const uint8_t *passphrase, size_t passphrase_len, uint8_t opened[66]);
+
+/*
+ * Changes a passphrase: opens slot `from`, adds its key to the free slot `to` under the new passphrase, revokes `from`.
+ *   random   (n - 1) * L bytes, by the stripes of `to`; filler: n * L bytes, by the stripes of `from`
+ * Refusals, in order: header, 13 (either slot), 15 (`from` disabled or `to` enabled), 14 (either passphrase), 10, 16, 17.
+ * Cost: two derivations of L bytes, with the count of `from` and with `count`, and one of 20 bytes with the header's.
+ */
+uint8_t mivrozh_change(uint8_t *image, size_t image_len, uint8_t from, const uint8_t *old_passphrase, size_t old_len, uint8_t to,
+                       const uint8_t *new_passphrase, size_t new_len, const uint8_t salt[32], uint32_t count,
+                       const uint8_t *random, size_t random_len, const uint8_t *filler, size_t filler_len);
+
+/*
+ * Revokes a slot: overwrites its area with the filler and disables it. No passphrase is asked for.
+ *   filler   n * L bytes
+ * Refusals, in order: header, 13, 15 (slot disabled), 18, 16.
+ * Cost: no derivation.
+ */
+uint8_t mivrozh_revoke(uint8_t *image, size_t image_len, uint8_t slot, const uint8_t *filler, size_t filler_len);
+
+/*
+ * Reads and deciphers payload units, 512 bytes each, counted from 0 at the payload's start.
+ *   key      the master key that an opening gave
+ *   buffer   512 * units bytes; as it was where refused
+ * Refusals, in order: header, 9, 19, 20, 17.
+ * Cost: one derivation of 20 bytes with the header's count for the whole call, then linear in `units`.
+ */
+uint8_t mivrozh_read(const uint8_t *image, size_t image_len, const uint8_t *key, size_t key_len, uint64_t first, uint64_t units, uint8_t *buffer, size_t buffer_len);
+
+/*
+ * Enciphers and writes payload units. Arguments, refusals and cost as for mivrozh_read.
+ */
+uint8_t mivrozh_write(uint8_t *image, size_t image_len, const uint8_t *key, size_t key_len, uint64_t first, uint64_t units, const uint8_t *buffer, size_t buffer_len);
+
+#ifdef __cplusplus
+}
+#endif
+
+#endif

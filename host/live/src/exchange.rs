@@ -1,0 +1,228 @@
+//! The life of a drive that changes hands: made by cryptsetup, by qemu or by us, used by us, judged by them, used by
+//! them, judged by us.
+
+use crate::hands::{key_of, Hand};
+use crate::peers::{Cryptsetup, Qemu};
+use crate::work::{load, random, store, Checks, Folder, Outcome};
+use model::header::Header;
+use model::xts::SECTOR;
+use model::{Call, Model};
+use std::path::{Path, PathBuf};
+
+const FIRST: &str = "first passphrase";
+const SECOND: &str = "2";
+const THIRD: &str = "a third passphrase, which is longer than the sixty-four bytes of a block of SHA-1";
+const FOURTH: &str = "fourth";
+const FIFTH: &str = "fifth";
+const SIXTH: &str = "sixth";
+const WRONG: &str = "wrong";
+
+/// The payload units of every drive here.
+pub const UNITS: usize = 32;
+
+#[derive(Clone, Copy, PartialEq)]
+pub enum Maker {
+    Cryptsetup,
+    Qemu,
+    Ourselves,
+}
+
+impl Maker {
+    pub fn name(self) -> &'static str {
+        match self {
+            Maker::Cryptsetup => "made by cryptsetup",
+            Maker::Qemu => "made by qemu",
+            Maker::Ourselves => "made by us",
+        }
+    }
+}
+
+pub struct Exchange<'a> {
+    pub checks: &'a mut Checks,
+    pub hand: &'a dyn Hand,
+    pub maker: Maker,
+    pub bits: usize,
+    pub cryptsetup: Cryptsetup<'a>,
+    pub qemu: Qemu<'a>,
+    pub image: PathBuf,
+    /// What the payload holds.
+    pub plain: Vec<u8>,
+}
+
+/// The sectors before the payload in the drives that are made here: of cryptsetup's and qemu's own choice, and 01's.
+fn payload_start(maker: Maker, bits: usize) -> usize {
+    match (maker, bits) {
+        (Maker::Ourselves, 256) => 2051,
+        (Maker::Ourselves, _) => 4037,
+        (_, 256) => 2056,
+        _ => 4040,
+    }
+}
+
+/// Makes a drive of `UNITS` units with the first passphrase in slot 1.
+pub fn make(folder: &Folder, hand: &dyn Hand, maker: Maker, bits: usize) -> Outcome<PathBuf> {
+    let image = folder.path.join("drive");
+    let _ = std::fs::remove_file(&image);
+    let bytes = (payload_start(maker, bits) + UNITS) * SECTOR;
+    match maker {
+        Maker::Qemu => Qemu { folder }.format(&image, bits, FIRST, UNITS * SECTOR)?,
+        Maker::Cryptsetup => {
+            store(&image, &vec![0; bytes])?;
+            Cryptsetup { folder }.format(&image, bits, FIRST)?;
+        }
+        Maker::Ourselves => {
+            store(&image, &random(bytes)?)?;
+            hand.format(&image, bits, FIRST)?;
+        }
+    }
+    match load(&image)?.len() {
+        length if length == bytes => Ok(image),
+        length => Err(format!("a drive {} has {length} bytes, not {bytes}", maker.name())),
+    }
+}
+
+impl Exchange<'_> {
+    pub fn run(&mut self) -> Outcome<()> {
+        self.opening()?;
+        self.keys()?;
+        self.payload()?;
+        self.adding()?;
+        self.changing()?;
+        self.revoking()?;
+        self.back_to_the_maker()?;
+        let last = self.hand.read(&self.image, FOURTH, 0, UNITS as u64)?;
+        self.checks.check("after all this the payload is as it was", last == self.plain)
+    }
+
+    fn image(&self) -> &Path {
+        &self.image
+    }
+
+    /// The maker puts a passphrase into a slot.
+    fn maker_adds(&self, known: &str, slot: u8, new: &str) -> Outcome<()> {
+        match self.maker {
+            Maker::Qemu => self.qemu.add(self.image(), known, slot, new),
+            _ => self.cryptsetup.add(self.image(), known, slot, new),
+        }
+    }
+
+    /// qemu reads no drive with the payload starts 2,051 and 4,037.
+    fn qemu_can(&self) -> bool {
+        self.maker != Maker::Ourselves
+    }
+
+    fn opening(&mut self) -> Outcome<()> {
+        self.maker_adds(FIRST, 8, SECOND)?;
+        let by_slot = |slot, passphrase| self.hand.open_slot(&self.image, slot, passphrase);
+        let (first, eighth) = (by_slot(1, FIRST)?, by_slot(8, SECOND)?);
+        let (wrong, disabled) = (by_slot(8, FIRST)?, by_slot(2, FIRST)?);
+        let searches = [SECOND, WRONG].map(|passphrase| self.hand.open(&self.image, passphrase));
+        let [found, lost] = searches;
+        let c = &mut self.checks;
+        c.check("slot 1 opens with its passphrase", first == Ok(1))?;
+        c.check("slot 8, added by a peer, opens with its passphrase", eighth == Ok(8))?;
+        c.check("slot 8 does not open with slot 1's", wrong == Err(17))?;
+        c.check("a disabled slot is refused by 15", disabled == Err(15))?;
+        c.check("the search finds slot 8", found? == Ok(8))?;
+        c.check("the search refuses a wrong passphrase by 17", lost? == Err(17))
+    }
+
+    fn keys(&mut self) -> Outcome<()> {
+        let theirs = self.cryptsetup.volume_key(self.image(), FIRST)?;
+        let bytes = load(&self.image)?;
+        let call = Call::Open { passphrase: SECOND.as_bytes().to_vec() };
+        let models = Model::default().step(&bytes, &call);
+        let ours = key_of(&bytes, SECOND)?;
+        let c = &mut self.checks;
+        c.check("the key has the right length", theirs.len() == self.bits / 8)?;
+        c.check("our key is cryptsetup's volume key", ours == theirs)?;
+        c.check("the model's key too", models.opened[2..2 + theirs.len()] == theirs[..])
+    }
+
+    fn payload(&mut self) -> Outcome<()> {
+        self.plain = random(UNITS * SECTOR)?;
+        if self.qemu_can() {
+            self.qemu.write(&self.image, FIRST, &self.plain)?;
+        } else {
+            self.hand.write(&self.image, FIRST, 0, &self.plain)?;
+        }
+        let all = self.hand.read(&self.image, FIRST, 0, UNITS as u64)?;
+        let part = self.hand.read(&self.image, SECOND, 7, 5)?;
+        let other = random(3 * SECTOR)?;
+        self.hand.write(&self.image, FIRST, 10, &other)?;
+        let written_by = if self.qemu_can() { "qemu" } else { "us" };
+        self.checks.check(&format!("the payload that {written_by} wrote is read whole"), all == self.plain)?;
+        self.checks.check("five units of it are read alone", part == self.plain[7 * SECTOR..12 * SECTOR])?;
+        self.plain[10 * SECTOR..13 * SECTOR].copy_from_slice(&other);
+        self.judge_payload("three units that we wrote are read", FIRST)
+    }
+
+    /// qemu, or where it cannot the model, reads the payload as it should be.
+    fn judge_payload(&mut self, what: &str, passphrase: &str) -> Outcome<()> {
+        if self.qemu_can() {
+            let read = self.qemu.read(&self.image, passphrase)?;
+            return self.checks.check(&format!("{what} by qemu"), read == self.plain);
+        }
+        let bytes = load(&self.image)?;
+        let key = key_of(&bytes, passphrase)?;
+        let call = Call::Read { key, first: 0, units: UNITS as u64, buffer: vec![0; UNITS * SECTOR] };
+        let read = Model::default().step(&bytes, &call).buffer;
+        self.checks.check(&format!("{what} by the model"), read == self.plain)
+    }
+
+    fn adding(&mut self) -> Outcome<()> {
+        self.hand.add(&self.image, FIRST, 5, THIRD)?;
+        let opens = self.cryptsetup.opens(self.image(), 5, THIRD)?;
+        let wrong = self.cryptsetup.opens(self.image(), 5, WRONG)?;
+        let enabled = self.cryptsetup.enabled(self.image())?;
+        let c = &mut self.checks;
+        c.check("cryptsetup opens the slot that we added", opens)?;
+        c.check("and not with a wrong passphrase", !wrong)?;
+        c.check("luksDump shows slots 1, 5 and 8 enabled", enabled == [1, 5, 8])?;
+        self.judge_payload("the payload is read under the passphrase that we added", THIRD)
+    }
+
+    fn changing(&mut self) -> Outcome<()> {
+        self.hand.change(&self.image, 1, FIRST, 3, FOURTH)?;
+        let new = self.cryptsetup.opens(self.image(), 3, FOURTH)?;
+        let old = self.cryptsetup.opens(self.image(), 1, FIRST)?;
+        let enabled = self.cryptsetup.enabled(self.image())?;
+        let c = &mut self.checks;
+        c.check("cryptsetup opens the changed slot with the new passphrase", new)?;
+        c.check("and no more with the old", !old)?;
+        c.check("luksDump shows slots 3, 5 and 8 enabled", enabled == [3, 5, 8])?;
+        if self.qemu_can() {
+            let reads = self.qemu.reads(self.image(), FIRST);
+            self.checks.check("qemu refuses the old passphrase", !reads)?;
+        }
+        self.judge_payload("the payload is read under the changed passphrase", FOURTH)
+    }
+
+    fn revoking(&mut self) -> Outcome<()> {
+        self.hand.revoke(&self.image, 8)?;
+        let opens = self.cryptsetup.opens(self.image(), 8, SECOND)?;
+        let enabled = self.cryptsetup.enabled(self.image())?;
+        let h = Header::read(&load(&self.image)?);
+        let kept = h.slots[7].start != 0 && h.slots[7].stripes == 4000;
+        self.checks.check("cryptsetup does not open the slot that we revoked", !opens)?;
+        self.checks.check("luksDump shows slots 3 and 5 enabled", enabled == [3, 5])?;
+        self.checks.check("the revoked record keeps its start and stripes", kept)
+    }
+
+    /// The maker goes on with the drive that we changed, and we judge what it did.
+    fn back_to_the_maker(&mut self) -> Outcome<()> {
+        self.maker_adds(FOURTH, 8, FIFTH)?;
+        let added = self.hand.open_slot(&self.image, 8, FIFTH)?;
+        self.checks.check("we open the slot that a peer added after us", added == Ok(8))?;
+        self.cryptsetup.change(self.image(), 5, THIRD, SIXTH)?;
+        let (new, old) = (self.hand.open(&self.image, SIXTH)?, self.hand.open(&self.image, THIRD)?);
+        self.checks.check("we open the slot that cryptsetup changed", new == Ok(5))?;
+        self.checks.check("and no more with the old passphrase", old == Err(17))?;
+        match self.maker {
+            Maker::Qemu => self.qemu.remove(self.image(), FOURTH, 8)?,
+            _ => self.cryptsetup.kill(self.image(), 8)?,
+        }
+        let removed = self.hand.open_slot(&self.image, 8, FIFTH)?;
+        self.checks.check("a slot that a peer removed is refused by 15", removed == Err(15))
+    }
+}

@@ -1,0 +1,63 @@
+//! Live tests: drives exchanged with cryptsetup (Debian's cryptsetup-bin) and qemu (qemu-utils). Each check is named;
+//! the first that fails ends the run with a failure.
+//!
+//!     live
+//!
+//! Every drive lives in a folder of its own under the system's temporary folder, which is removed in the end.
+
+mod exchange;
+mod hands;
+mod peers;
+mod rebuild;
+mod work;
+
+use exchange::{make, Exchange, Maker};
+use hands::{Hand, Library, Tool};
+use peers::{Cryptsetup, Qemu};
+use std::process::ExitCode;
+use std::time::Instant;
+use work::{Checks, Folder, Outcome};
+
+fn exchanges(folder: &Folder, checks: &mut Checks) -> Outcome<()> {
+    let tool = Tool::new(folder)?;
+    let hands: [&dyn Hand; 2] = [&Library, &tool];
+    for bits in [256, 512] {
+        for maker in [Maker::Cryptsetup, Maker::Qemu, Maker::Ourselves] {
+            for hand in hands {
+                checks.drive = format!("{bits} bits, {}, by the {}", maker.name(), hand.name());
+                let image = make(folder, hand, maker, bits)?;
+                let (cryptsetup, qemu) = (Cryptsetup { folder }, Qemu { folder });
+                Exchange { checks, hand, maker, bits, cryptsetup, qemu, image, plain: Vec::new() }.run()?;
+            }
+        }
+    }
+    Ok(())
+}
+
+fn rebuilds(folder: &Folder, checks: &mut Checks) -> Outcome<()> {
+    for bits in [256, 512] {
+        for maker in [Maker::Cryptsetup, Maker::Qemu] {
+            checks.drive = format!("{bits} bits, {}, rebuilt", maker.name());
+            rebuild::rebuild(folder, checks, maker, bits)?;
+        }
+    }
+    Ok(())
+}
+
+fn run(checks: &mut Checks) -> Outcome<()> {
+    println!("{}", work::run("cryptsetup", &["--version"])?.trim());
+    println!("{}", work::run("qemu-img", &["--version"])?.lines().next().unwrap_or_default());
+    let folder = Folder::new()?;
+    exchanges(&folder, checks)?;
+    rebuilds(&folder, checks)
+}
+
+fn main() -> ExitCode {
+    let (began, mut checks) = (Instant::now(), Checks { drive: String::new(), passed: 0 });
+    if let Err(message) = run(&mut checks) {
+        println!("FAILED  {message} ({})", checks.drive);
+        return ExitCode::FAILURE;
+    }
+    println!("{} live checks passed, {:.1} s", checks.passed, began.elapsed().as_secs_f64());
+    ExitCode::SUCCESS
+}

@@ -1,0 +1,136 @@
+//! cryptsetup and qemu-img as they are used on image files. Slots are counted as ours, from 1; theirs count from 0.
+
+use crate::work::{load, output, run, text, Folder, Outcome};
+use std::path::Path;
+
+const COUNT: [&str; 2] = ["--pbkdf-force-iterations", "1000"];
+
+pub struct Cryptsetup<'a> {
+    pub folder: &'a Folder,
+}
+
+impl Cryptsetup<'_> {
+    pub fn format(&self, image: &Path, bits: usize, passphrase: &str) -> Outcome<()> {
+        let file = self.folder.file("passphrase", passphrase.as_bytes())?;
+        let size = bits.to_string();
+        let drive = ["--type", "luks1", "--cipher", "aes-xts-plain64", "--hash", "sha1", "--align-payload", "1"];
+        let mut arguments = vec!["luksFormat", "--batch-mode", "--key-size", &size, "--key-file", text(&file)];
+        arguments.extend(COUNT.iter().chain(&drive));
+        arguments.push(text(image));
+        run("cryptsetup", &arguments).map(|_| ())
+    }
+
+    pub fn add(&self, image: &Path, known: &str, slot: u8, new: &str) -> Outcome<()> {
+        let known = self.folder.file("passphrase", known.as_bytes())?;
+        let new = self.folder.file("new passphrase", new.as_bytes())?;
+        let slot = (slot - 1).to_string();
+        let mut arguments = vec!["luksAddKey", "--batch-mode", "--key-file", text(&known), "--new-key-slot", &slot];
+        arguments.extend(COUNT);
+        arguments.extend([text(image), text(&new)]);
+        run("cryptsetup", &arguments).map(|_| ())
+    }
+
+    pub fn change(&self, image: &Path, slot: u8, old: &str, new: &str) -> Outcome<()> {
+        let old = self.folder.file("passphrase", old.as_bytes())?;
+        let new = self.folder.file("new passphrase", new.as_bytes())?;
+        let slot = (slot - 1).to_string();
+        let mut arguments = vec!["luksChangeKey", "--batch-mode", "--key-file", text(&old), "--key-slot", &slot];
+        arguments.extend(COUNT);
+        arguments.extend([text(image), text(&new)]);
+        run("cryptsetup", &arguments).map(|_| ())
+    }
+
+    pub fn kill(&self, image: &Path, slot: u8) -> Outcome<()> {
+        run("cryptsetup", &["luksKillSlot", "--batch-mode", text(image), &(slot - 1).to_string()]).map(|_| ())
+    }
+
+    /// Does the passphrase open this slot?
+    pub fn opens(&self, image: &Path, slot: u8, passphrase: &str) -> Outcome<bool> {
+        let file = self.folder.file("passphrase", passphrase.as_bytes())?;
+        let slot = (slot - 1).to_string();
+        let arguments = ["open", "--test-passphrase", "--key-file", text(&file), "--key-slot", &slot, text(image)];
+        let out = output("cryptsetup", &arguments)?;
+        match out.status.code() {
+            Some(0) => Ok(true),
+            // 1: the slot is disabled; 2: no key with this passphrase.
+            Some(1 | 2) => Ok(false),
+            _ => Err(format!("cryptsetup open: {}: {}", out.status, String::from_utf8_lossy(&out.stderr).trim())),
+        }
+    }
+
+    /// The slots that luksDump calls enabled.
+    pub fn enabled(&self, image: &Path) -> Outcome<Vec<u8>> {
+        let dump = run("cryptsetup", &["luksDump", text(image)])?;
+        let line = |k: u8| format!("Key Slot {}: ENABLED", k - 1);
+        Ok((1..=8).filter(|k| dump.lines().any(|l| l == line(*k))).collect())
+    }
+
+    pub fn volume_key(&self, image: &Path, passphrase: &str) -> Outcome<Vec<u8>> {
+        let file = self.folder.file("passphrase", passphrase.as_bytes())?;
+        let out = self.folder.path.join("volume key");
+        let _ = std::fs::remove_file(&out);
+        let dump = ["luksDump", "--batch-mode", "--dump-volume-key", "--volume-key-file", text(&out)];
+        run("cryptsetup", &[&dump[..], &["--key-file", text(&file), text(image)]].concat())?;
+        load(&out)
+    }
+}
+
+pub struct Qemu<'a> {
+    pub folder: &'a Folder,
+}
+
+impl Qemu<'_> {
+    fn secret(&self, id: &str, passphrase: &str) -> Outcome<String> {
+        let file = self.folder.file(&format!("secret-{id}"), passphrase.as_bytes())?;
+        Ok(format!("secret,id={id},file={}", text(&file)))
+    }
+
+    fn opened(&self, image: &Path) -> String {
+        format!("driver=luks,key-secret=s,file.filename={}", text(image))
+    }
+
+    pub fn format(&self, image: &Path, bits: usize, passphrase: &str, payload: usize) -> Outcome<()> {
+        let secret = self.secret("s", passphrase)?;
+        let cipher = format!("cipher-alg=aes-{},cipher-mode=xts,ivgen-alg=plain64,hash-alg=sha1", bits / 2);
+        let options = format!("key-secret=s,{cipher},iter-time=10");
+        let size = payload.to_string();
+        let arguments = ["create", "-q", "--object", &secret, "-f", "luks", "-o", &options, text(image), &size];
+        run("qemu-img", &arguments).map(|_| ())
+    }
+
+    /// The whole payload.
+    pub fn read(&self, image: &Path, passphrase: &str) -> Outcome<Vec<u8>> {
+        let (secret, opened) = (self.secret("s", passphrase)?, self.opened(image));
+        let out = self.folder.path.join("plain read by qemu");
+        run("qemu-img", &["convert", "--object", &secret, "--image-opts", &opened, "-O", "raw", text(&out)])?;
+        load(&out)
+    }
+
+    pub fn reads(&self, image: &Path, passphrase: &str) -> bool {
+        self.read(image, passphrase).is_ok()
+    }
+
+    /// Writes the payload from its start.
+    pub fn write(&self, image: &Path, passphrase: &str, plain: &[u8]) -> Outcome<()> {
+        let (secret, opened) = (self.secret("s", passphrase)?, self.opened(image));
+        let plain = self.folder.file("plain for qemu", plain)?;
+        let from = ["convert", "-q", "-n", "--object", &secret, "-f", "raw"];
+        run("qemu-img", &[&from[..], &["--target-image-opts", text(&plain), &opened]].concat()).map(|_| ())
+    }
+
+    pub fn add(&self, image: &Path, known: &str, slot: u8, new: &str) -> Outcome<()> {
+        let options = format!("state=active,new-secret=n,keyslot={},iter-time=10", slot - 1);
+        self.amend(image, known, new, &options)
+    }
+
+    pub fn remove(&self, image: &Path, known: &str, slot: u8) -> Outcome<()> {
+        self.amend(image, known, known, &format!("state=inactive,keyslot={}", slot - 1))
+    }
+
+    fn amend(&self, image: &Path, known: &str, new: &str, options: &str) -> Outcome<()> {
+        let (secret, new, opened) = (self.secret("s", known)?, self.secret("n", new)?, self.opened(image));
+        let secrets = ["--object", &secret, "--object", &new];
+        run("qemu-img", &[&["amend", "-q"], &secrets[..], &["-o", options, "--image-opts", &opened]].concat())?;
+        Ok(())
+    }
+}

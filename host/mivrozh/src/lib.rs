@@ -1,0 +1,38 @@
+//! LUKS version 1 drives: a safe binding to the proved engine.
+//!
+//! A [`Drive`] stands over an image that its user lends; its methods are the engine's calls. Salts, random bytes and
+//! filler are the caller's. Keys and passphrases are [`Secret`]s.
+//!
+//! ```
+//! use mivrozh::{Drive, FormatInput, PayloadUnit, Profile, Secret, SlotInput};
+//!
+//! let mut image = vec![0; 64 * 1024];
+//! let (key, passphrase) = (Secret::from(vec![7; 64]), Secret::from(&b"open sesame"[..]));
+//! let (salt, random) = ([9; 32], []); // From a good source of randomness in earnest.
+//! let mut drive = Drive::over(&mut image);
+//! let uuid = "6a2b1f0e-3c4d-4e5f-8a9b-0c1d2e3f4a5b";
+//! drive.format(&FormatInput { profile: Profile::Key512, stripes: 1, key: &key, salt: &salt, count: 1000, uuid })?;
+//! drive.add(1, &key, &SlotInput { passphrase: &passphrase, salt: &salt, count: 1000, random: &random })?;
+//! let opened = drive.open(&passphrase)?;
+//! assert_eq!(opened.slot, 1);
+//! drive.write(&opened.key, PayloadUnit(0), 1, &[1; 512])?;
+//! # Ok::<(), mivrozh::Refusal>(())
+//! ```
+#![deny(unsafe_code)]
+
+mod drive;
+pub mod header;
+#[allow(unsafe_code)]
+pub mod raw;
+mod refusal;
+mod secret;
+
+pub use drive::{Drive, FormatInput, Opened, PayloadUnit, Profile, SlotInput};
+pub use header::Header;
+pub use refusal::Refusal;
+pub use secret::Secret;
+
+// The example in README.md compiles.
+#[cfg(doctest)]
+#[doc = include_str!("../../../README.md")]
+struct Readme;

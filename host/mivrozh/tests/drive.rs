@@ -1,0 +1,123 @@
+//! The safe binding: the calls on a drive, every refusal with its number and sentence.
+use mivrozh::{Drive, FormatInput, PayloadUnit, Profile, Refusal, Secret, SlotInput};
+
+const UUID: &str = "6a2b1f0e-3c4d-4e5f-8a9b-0c1d2e3f4a5b";
+const COUNT: u32 = 1000;
+const STRIPES: u32 = 9;
+const UNITS: usize = 4;
+const SALT: [u8; 32] = [3; 32];
+
+fn key(profile: Profile) -> Secret {
+    Secret::from((0..profile.key_bytes() as u8).collect::<Vec<u8>>())
+}
+
+fn passphrase(text: &str) -> Secret {
+    Secret::from(text.as_bytes())
+}
+
+fn format_input<'a>(profile: Profile, key: &'a Secret) -> FormatInput<'a> {
+    FormatInput { profile, stripes: STRIPES, key, salt: &SALT, count: COUNT, uuid: UUID }
+}
+
+fn slot_input<'a>(passphrase: &'a Secret, random: &'a [u8]) -> SlotInput<'a> {
+    SlotInput { passphrase, salt: &SALT, count: COUNT, random }
+}
+
+// An image that holds a drive with the passphrase "one" in slot 1.
+fn image(profile: Profile) -> Vec<u8> {
+    let mut image = vec![0; (66 + UNITS) * 512];
+    let mut drive = Drive::over(&mut image);
+    let key = key(profile);
+    drive.format(&format_input(profile, &key)).expect("a drive");
+    let random = vec![5; drive.header().expect("a header").random_length(1)];
+    drive.add(1, &key, &slot_input(&passphrase("one"), &random)).expect("a passphrase");
+    image
+}
+
+#[test]
+fn the_life_of_a_drive() {
+    for profile in [Profile::Key256, Profile::Key512] {
+        let (mut image, key) = (image(profile), key(profile));
+        let mut drive = Drive::over(&mut image);
+        let header = drive.header().expect("a header");
+        assert_eq!(header.key_bytes as usize, profile.key_bytes());
+        assert_eq!(header.free_slot(), Some(2));
+        let (random, filler) = (vec![6; header.random_length(7)], vec![7; header.area_length(1)]);
+
+        let opened = drive.open(&passphrase("one")).expect("slot 1 opens");
+        assert_eq!((opened.slot, opened.key.expose()), (1, key.expose()));
+        drive.add(7, &opened.key, &slot_input(&passphrase("two"), &random)).expect("slot 7 is free");
+        assert_eq!(drive.open(&passphrase("two")).expect("slot 7 opens").slot, 7);
+        drive.change(7, &passphrase("two"), 3, &slot_input(&passphrase("three"), &random), &filler).expect("a change");
+        assert_eq!(drive.open_slot(3, &passphrase("three")).expect("slot 3 opens").key.expose(), key.expose());
+        drive.revoke(1, &filler).expect("slot 3 is in use too");
+        assert_eq!(drive.open(&passphrase("one")).err(), Some(Refusal::WrongKey));
+        assert_eq!(drive.header().expect("a header").enabled_slots().collect::<Vec<_>>(), [3]);
+
+        let (plain, mut back) = ([9; 1024], [0; 1024]);
+        drive.write(&key, PayloadUnit(1), 2, &plain).expect("two units");
+        drive.read(&key, PayloadUnit(1), 2, &mut back).expect("two units");
+        assert_eq!(plain, back);
+        assert_eq!(drive.check(), Ok(()));
+    }
+}
+
+// Every refusal that the binding's types leave room for, and that it changes nothing.
+#[test]
+fn refusals() {
+    let (key, one) = (key(Profile::Key512), passphrase("one"));
+    let short = Secret::zeroed(32);
+    let damaged = |at: usize, bytes: &[u8]| {
+        let mut image = image(Profile::Key512);
+        image[at..at + bytes.len()].copy_from_slice(bytes);
+        Drive::over(&mut image).open(&one).err()
+    };
+    assert_eq!(Drive::over(&mut []).check(), Err(Refusal::ImageSize));
+    assert_eq!(damaged(0, b"S"), Some(Refusal::Magic));
+    assert_eq!(damaged(7, &[2]), Some(Refusal::Version));
+    assert_eq!(damaged(72, b"md5\0"), Some(Refusal::NoProfile));
+    assert_eq!(damaged(164, &[0; 4]), Some(Refusal::BadRecord));
+    assert_eq!(damaged(104, &[1; 4]), Some(Refusal::BadArea));
+
+    let mut image = image(Profile::Key512);
+    let before = image.clone();
+    let mut drive = Drive::over(&mut image);
+    let input = format_input(Profile::Key512, &key);
+    assert_eq!(drive.format(&FormatInput { stripes: 0, ..input }), Err(Refusal::BadStripes));
+    assert_eq!(drive.format(&FormatInput { key: &short, ..input }), Err(Refusal::KeyLength));
+    assert_eq!(drive.format(&FormatInput { count: 999, ..input }), Err(Refusal::LowCount));
+    assert_eq!(drive.format(&FormatInput { uuid: "none", ..input }), Err(Refusal::BadUuid));
+    assert_eq!(drive.format(&FormatInput { stripes: 4000, ..input }), Err(Refusal::ShortImage));
+    assert_eq!(drive.open_slot(9, &one).err(), Some(Refusal::BadSlot));
+    assert_eq!(drive.open(&Secret::zeroed(513)).err(), Some(Refusal::BadPassphrase));
+    assert_eq!(drive.open_slot(2, &one).err(), Some(Refusal::WrongState));
+    assert_eq!(drive.add(2, &key, &slot_input(&one, &[])), Err(Refusal::BadLength));
+    assert_eq!(drive.open(&passphrase("two")).err(), Some(Refusal::WrongKey));
+    assert_eq!(drive.revoke(1, &[]), Err(Refusal::LastSlot));
+    assert_eq!(drive.read(&key, PayloadUnit(u64::MAX), 1, &mut [0; 512]), Err(Refusal::BadRange));
+    assert_eq!(drive.write(&key, PayloadUnit(0), 1, &[0; 511]), Err(Refusal::BadBuffer));
+    assert_eq!(drive.write(&short, PayloadUnit(0), 0, &[]), Err(Refusal::KeyLength));
+    assert!(image == before);
+}
+
+#[test]
+fn each_refusal_has_its_number_and_a_sentence_of_its_own() {
+    let mut sentences = std::collections::HashSet::new();
+    for (number, refusal) in (1..=20).zip(Refusal::ALL) {
+        assert_eq!(refusal.number(), number);
+        assert_eq!(Refusal::from_number(number), Some(refusal));
+        let sentence = refusal.to_string();
+        assert!(!sentence.contains("  ") && !sentence.ends_with('.'), "{sentence}");
+        assert!(sentences.insert(sentence));
+    }
+    assert_eq!(Refusal::from_number(0), None);
+    assert_eq!(sentences.len(), 20);
+}
+
+#[test]
+fn nothing_that_is_printed_holds_a_key() {
+    let opened = Drive::over(&mut image(Profile::Key256)).open(&passphrase("one")).expect("slot 1 opens");
+    assert_eq!(format!("{opened:?}"), "Opened { slot: 1, key: Secret(..) }");
+    let key = key(Profile::Key256);
+    assert!(format!("{:?}", format_input(Profile::Key256, &key)).contains("key: Secret(..)"));
+}

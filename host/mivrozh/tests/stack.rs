@@ -1,0 +1,310 @@
+//! What the calls leave on the stack: how deep they go, and that no key is there after the binding has wiped it.
+//!
+//! Each call runs on a thread whose stack is memory of the test, painted beforehand. When the call has returned the thread
+//! spins, and the test looks at the stack as it lies there.
+use mivrozh::{raw, Drive, Secret};
+use std::ffi::c_void;
+use std::sync::atomic::{AtomicBool, AtomicU8, AtomicUsize, Ordering};
+
+const STACK: usize = 512 * 1024;
+const PAINT: u8 = 0xA5;
+const STRIPES: u32 = 4000;
+const LENGTH: usize = 64;
+const UNITS: usize = 8;
+const IMAGE: usize = (4037 + UNITS) * 512;
+const COUNT: u32 = 1000;
+const UUID: &[u8; 36] = b"6a2b1f0e-3c4d-4e5f-8a9b-0c1d2e3f4a5b";
+
+type In = *const u8;
+type Out = *mut u8;
+
+// The engine's functions without the binding, so without its wiping; and threads with a given stack.
+extern "C" {
+    fn mivrozh_format(i: Out, il: usize, p: u8, n: u32, k: In, kl: usize, s: In, c: u32, u: In, ul: usize) -> u8;
+    fn mivrozh_add(
+        i: Out,
+        il: usize,
+        at: u8,
+        k: In,
+        kl: usize,
+        p: In,
+        pl: usize,
+        s: In,
+        c: u32,
+        r: In,
+        rl: usize,
+    ) -> u8;
+    fn mivrozh_open_slot(i: In, il: usize, at: u8, p: In, pl: usize, opened: Out) -> u8;
+    fn mivrozh_open(i: In, il: usize, p: In, pl: usize, opened: Out) -> u8;
+    #[rustfmt::skip]
+    fn mivrozh_change(
+        i: Out,
+        il: usize,
+        at: u8,
+        p: In,
+        pl: usize,
+        to: u8,
+        q: In,
+        ql: usize,
+        s: In,
+        c: u32,
+        r: In,
+        rl: usize,
+        f: In,
+        fl: usize,
+    ) -> u8;
+    fn mivrozh_revoke(i: Out, il: usize, at: u8, f: In, fl: usize) -> u8;
+    fn mivrozh_read(i: In, il: usize, k: In, kl: usize, first: u64, units: u64, b: Out, bl: usize) -> u8;
+    fn mivrozh_write(i: Out, il: usize, k: In, kl: usize, first: u64, units: u64, b: In, bl: usize) -> u8;
+
+    fn pthread_attr_init(attributes: *mut u64) -> i32;
+    fn pthread_attr_setstack(attributes: *mut u64, stack: Out, size: usize) -> i32;
+    fn pthread_attr_destroy(attributes: *mut u64) -> i32;
+    fn pthread_create(
+        thread: *mut usize,
+        attributes: *const u64,
+        start: extern "C" fn(*mut c_void) -> *mut c_void,
+        argument: *mut c_void,
+    ) -> i32;
+    fn pthread_join(thread: usize, result: *mut *mut c_void) -> i32;
+}
+
+#[derive(Clone, Copy, Debug, PartialEq)]
+enum Call {
+    Format,
+    Add,
+    OpenSlot,
+    Open,
+    Change,
+    Revoke,
+    Read,
+    Write,
+}
+
+const CALLS: [Call; 8] =
+    [Call::Format, Call::Add, Call::OpenSlot, Call::Open, Call::Change, Call::Revoke, Call::Read, Call::Write];
+// The calls that have a key or derive one.
+const KEYED: [Call; 7] = [Call::Format, Call::Add, Call::OpenSlot, Call::Open, Call::Change, Call::Read, Call::Write];
+
+// A drive with passphrases in slots 1 and 8, and the arguments of every call. All of it stands on the heap.
+struct Scene {
+    image: Vec<u8>,
+    key: Vec<u8>,
+    first: Vec<u8>,
+    last: Vec<u8>,
+    salt: Box<[u8; 32]>,
+    random: Vec<u8>,
+    filler: Vec<u8>,
+    buffer: Vec<u8>,
+    opened: Box<[u8; 66]>,
+}
+
+impl Scene {
+    fn new() -> Scene {
+        let mut scene = Scene {
+            image: vec![0; IMAGE],
+            key: bytes(1, LENGTH),
+            first: bytes(2, 20),
+            last: bytes(3, LENGTH),
+            salt: Box::new(bytes(4, 32).try_into().expect("32 bytes")),
+            random: bytes(5, (STRIPES as usize - 1) * LENGTH),
+            filler: bytes(6, STRIPES as usize * LENGTH),
+            buffer: bytes(7, UNITS * 512),
+            opened: Box::new([0; 66]),
+        };
+        assert_eq!(scene.bound(Call::Format), 0);
+        let Scene { image, key, first, last, salt, random, .. } = &mut scene;
+        assert_eq!(raw::add(image, 1, key, first, salt, COUNT, random), 0);
+        assert_eq!(raw::add(image, 8, key, last, salt, COUNT, random), 0);
+        scene
+    }
+
+    // The beginning of the key that the passphrase of slot 8 derives, and so of its AES key schedule. The header's
+    // checksum is the same derivation, of a master key: so it is read from a drive whose key is that passphrase.
+    fn derived(&self) -> Vec<u8> {
+        let mut image = vec![0; 40 * 1024];
+        assert_eq!(raw::format(&mut image, 2, 1, &self.last, &self.salt, COUNT, UUID), 0);
+        image[112..132].to_vec()
+    }
+
+    // The call through the binding.
+    fn bound(&mut self, call: Call) -> u8 {
+        let Scene { image, key, first, last, salt, random, filler, buffer, opened } = self;
+        let units = UNITS as u64;
+        match call {
+            Call::Format => raw::format(image, 2, STRIPES, key, salt, COUNT, UUID),
+            Call::Add => raw::add(image, 2, key, last, salt, COUNT, random),
+            Call::OpenSlot => raw::open_slot(image, 8, last, opened),
+            Call::Open => raw::open(image, last, opened),
+            Call::Change => raw::change(image, 8, last, 3, first, salt, COUNT, random, filler),
+            Call::Revoke => raw::revoke(image, 1, filler),
+            Call::Read => raw::read(image, key, 0, units, buffer),
+            Call::Write => raw::write(image, key, 0, units, buffer),
+        }
+    }
+
+    // The same call without the binding.
+    #[rustfmt::skip]
+    fn bare(&mut self, call: Call) -> u8 {
+        let Scene { image, key, first, last, salt, random, filler, buffer, opened } = self;
+        let (i, il, units) = (image.as_mut_ptr(), image.len(), UNITS as u64);
+        let (k, kl, s, r, rl) = (key.as_ptr(), key.len(), salt.as_ptr(), random.as_ptr(), random.len());
+        let (p, pl, f, fl) = (last.as_ptr(), last.len(), filler.as_ptr(), filler.len());
+        // SAFETY: all pointers are into live, separate buffers of the scene, with their lengths.
+        unsafe {
+            match call {
+                Call::Format => mivrozh_format(i, il, 2, STRIPES, k, kl, s, COUNT, UUID.as_ptr(), UUID.len()),
+                Call::Add => mivrozh_add(i, il, 2, k, kl, p, pl, s, COUNT, r, rl),
+                Call::OpenSlot => mivrozh_open_slot(i, il, 8, p, pl, opened.as_mut_ptr()),
+                Call::Open => mivrozh_open(i, il, p, pl, opened.as_mut_ptr()),
+                Call::Change => mivrozh_change(i, il, 8, p, pl, 3, first.as_ptr(), first.len(), s, COUNT, r, rl, f, fl),
+                Call::Revoke => mivrozh_revoke(i, il, 1, f, fl),
+                Call::Read => mivrozh_read(i, il, k, kl, 0, units, buffer.as_mut_ptr(), buffer.len()),
+                Call::Write => mivrozh_write(i, il, k, kl, 0, units, buffer.as_ptr(), buffer.len()),
+            }
+        }
+    }
+}
+
+// Bytes that look random and differ with the seed.
+fn bytes(seed: u64, length: usize) -> Vec<u8> {
+    let mut state = seed.wrapping_mul(0x9E37_79B9_7F4A_7C15) | 1;
+    let mut next = || {
+        state ^= state << 13;
+        state ^= state >> 7;
+        state ^= state << 17;
+        (state >> 32) as u8
+    };
+    (0..length).map(|_| next()).collect()
+}
+
+// What the thread is to do, and what it says.
+struct Task<'a> {
+    work: &'a mut dyn FnMut() -> u8,
+    number: AtomicU8,
+    frame: AtomicUsize,
+    done: AtomicBool,
+    released: AtomicBool,
+}
+
+extern "C" fn thread(argument: *mut c_void) -> *mut c_void {
+    // SAFETY: the argument is the task of `stack_after`, which lives until this thread has been joined.
+    let task = unsafe { &mut *argument.cast::<Task>() };
+    let here = 0u8;
+    task.frame.store(std::hint::black_box(&here) as *const u8 as usize, Ordering::Relaxed);
+    task.number.store((task.work)(), Ordering::Relaxed);
+    task.done.store(true, Ordering::Release);
+    while !task.released.load(Ordering::Acquire) {
+        std::hint::spin_loop();
+    }
+    std::ptr::null_mut()
+}
+
+// The stack as it lies after the work, and how many bytes of it stand below the frame that called the work.
+struct After {
+    stack: Vec<u8>,
+    dead: usize,
+}
+
+fn stack_after(work: &mut (dyn FnMut() -> u8 + Send)) -> After {
+    let mut memory = vec![PAINT; STACK + 64];
+    let start = memory.as_ptr().align_offset(64);
+    let base = memory[start..].as_mut_ptr();
+    let mut task = Task {
+        work,
+        number: AtomicU8::new(255),
+        frame: AtomicUsize::new(0),
+        done: AtomicBool::new(false),
+        released: AtomicBool::new(false),
+    };
+    let (mut attributes, mut id) = ([0u64; 16], 0usize);
+    let argument = (&raw mut task).cast::<c_void>();
+    // SAFETY: the attributes have more room than glibc's 56 bytes; the stack and the task live until the join; while the
+    // thread spins nothing writes to its stack, and volatile reads take it as it is.
+    let stack = unsafe {
+        assert_eq!(pthread_attr_init(attributes.as_mut_ptr()), 0);
+        assert_eq!(pthread_attr_setstack(attributes.as_mut_ptr(), base, STACK), 0);
+        assert_eq!(pthread_create(&mut id, attributes.as_ptr(), thread, argument), 0);
+        while !(*argument.cast::<Task>()).done.load(Ordering::Acquire) {
+            std::thread::yield_now();
+        }
+        let stack: Vec<u8> = (0..STACK).map(|at| std::ptr::read_volatile(base.add(at))).collect();
+        (*argument.cast::<Task>()).released.store(true, Ordering::Release);
+        assert_eq!(pthread_join(id, std::ptr::null_mut()), 0);
+        pthread_attr_destroy(attributes.as_mut_ptr());
+        stack
+    };
+    assert_eq!(task.number.load(Ordering::Relaxed), 0, "the call was accepted");
+    After { stack, dead: task.frame.load(Ordering::Relaxed) - base as usize }
+}
+
+impl After {
+    // How far below the caller's frame the stack was written.
+    fn depth(&self) -> usize {
+        let lowest = self.stack.iter().position(|&byte| byte != PAINT).expect("the stack was used");
+        self.dead - lowest
+    }
+
+    // How many pieces of 8 bytes of the secret, as it is or with the bytes of each word of four turned around, stand in
+    // the stack.
+    fn pieces_of(&self, secret: &[u8]) -> usize {
+        let turned: Vec<u8> = secret.chunks_exact(4).flat_map(|word| word.iter().rev().copied()).collect();
+        let pieces: std::collections::HashSet<&[u8]> = secret.windows(8).chain(turned.windows(8)).collect();
+        self.stack.windows(8).filter(|window| pieces.contains(window)).count()
+    }
+}
+
+#[test]
+fn the_calls_stay_within_the_wiped_stack() {
+    for call in CALLS {
+        let mut scene = Scene::new();
+        let depth = stack_after(&mut || scene.bare(call)).depth();
+        println!("{call:?}: {depth} bytes of stack");
+        assert!(depth <= raw::MOST_STACK, "{call:?} uses {depth} bytes");
+    }
+}
+
+#[test]
+fn no_key_stays_on_the_stack() {
+    for call in KEYED {
+        let mut scene = Scene::new();
+        let (key, derived) = (scene.key.clone(), scene.derived());
+        let bare = stack_after(&mut || scene.bare(call));
+        let found = bare.pieces_of(&key) + bare.pieces_of(&derived);
+        println!("{call:?}: {found} pieces of keys where nothing is wiped");
+        assert!(found > 0, "{call:?}: this test would not see a key");
+
+        let mut scene = Scene::new();
+        let bound = stack_after(&mut || scene.bound(call));
+        assert_eq!(bound.pieces_of(&key), 0, "{call:?} leaves the master key");
+        assert_eq!(bound.pieces_of(&derived), 0, "{call:?} leaves the derived key");
+        assert_eq!(bound.pieces_of(&scene.last), 0, "{call:?} leaves the passphrase");
+    }
+}
+
+// The same of a Drive's method, which has the key in a buffer of its own.
+#[test]
+fn an_opened_drive_leaves_no_key_on_the_stack() {
+    let mut scene = Scene::new();
+    let (key, passphrase) = (scene.key.clone(), Secret::from(&scene.last[..]));
+    let mut found = None;
+    let after = stack_after(&mut || {
+        found = Drive::over(&mut scene.image).open(&passphrase).ok();
+        0
+    });
+    assert_eq!(found.expect("slot 8 opens").key.expose(), key);
+    assert_eq!(after.pieces_of(&key), 0);
+    assert_eq!(after.pieces_of(&scene.last), 0);
+}
+
+// Below the frames of the binding itself, which hold pointers and lengths, the wiped stack has nothing but zeros.
+#[test]
+fn the_engines_frames_are_zeros() {
+    const OF_THE_BINDING: usize = 2048;
+    for call in CALLS {
+        let mut scene = Scene::new();
+        let bound = stack_after(&mut || scene.bound(call));
+        let wiped = &bound.stack[bound.dead - raw::WIPED_STACK..bound.dead - OF_THE_BINDING];
+        assert!(wiped.iter().all(|&byte| byte == 0), "{call:?} leaves something");
+    }
+}

@@ -1,0 +1,120 @@
+//! Drives to call upon: foreign ones, laid out as no format of ours would, and what the test knows of a drive.
+
+use crate::random::Random;
+use model::header::{at, put, put_number, Header, Slot, DISABLED, MAGIC, NAMES};
+use model::slots::Derivations;
+use model::xts::SECTOR;
+use model::Call;
+
+/// An image, the key of its checksum, and for each slot the passphrase that opened it last.
+#[derive(Clone)]
+pub struct Drive {
+    pub image: Vec<u8>,
+    pub key: Vec<u8>,
+    pub passphrases: [Option<Vec<u8>>; 8],
+}
+
+impl Drive {
+    pub fn header(&self) -> Header {
+        Header::read(&self.image)
+    }
+
+    /// Takes over what an accepted call means for key and passphrases.
+    pub fn learn(&mut self, call: &Call) {
+        match call {
+            Call::Format { key, .. } => {
+                self.key = key.clone();
+                self.passphrases = Default::default();
+            }
+            Call::Add { slot, passphrase, .. } => self.passphrases[*slot as usize - 1] = Some(passphrase.clone()),
+            Call::Change { from, to, new, .. } => {
+                self.passphrases[*from as usize - 1] = None;
+                self.passphrases[*to as usize - 1] = Some(new.clone());
+            }
+            Call::Revoke { slot, .. } => self.passphrases[*slot as usize - 1] = None,
+            _ => {}
+        }
+    }
+}
+
+/// Names with anything after their zero byte, magic, version, checksum: all of a header but its records and payload
+/// start.
+pub fn put_head(random: &mut Random, d: &mut Derivations, image: &mut [u8], key: &[u8]) {
+    put(image, at::MAGIC, &MAGIC);
+    put(image, at::VERSION, &[0, 1]);
+    for (at, name) in at::NAMES.into_iter().zip(NAMES) {
+        put(image, at, name.as_bytes());
+        image[at + name.len()] = 0;
+    }
+    let (salt, count) = (random.salt(), random.range(1, 3) as u32);
+    put_number(image, at::KEY_BYTES, key.len() as u32);
+    put(image, at::CHECKSUM, &d.derive(key, &salt, count, 20));
+    put(image, at::SALT, &salt);
+    put_number(image, at::COUNT, count);
+}
+
+/// Areas one after the other in random order, with gaps of 0 to 3 sectors; gives the payload start.
+fn put_areas(random: &mut Random, image: &mut Vec<u8>, key_length: usize) -> u32 {
+    let mut order: Vec<usize> = (1..=8).collect();
+    for i in (1..8).rev() {
+        order.swap(i, random.range(0, i));
+    }
+    let mut next = 2 + random.range(0, 1);
+    for k in order {
+        let stripes = random.range(1, 20);
+        let sectors = (stripes * key_length).div_ceil(SECTOR);
+        image.resize(image.len().max((next + sectors) * SECTOR), 0);
+        let (count, salt) = (random.number() as u32, random.salt());
+        Slot { state: DISABLED, count, salt, start: next as u32, stripes: stripes as u32 }.write(image, k);
+        next += sectors + random.pick(&[0, 0, 0, 1, 3]);
+    }
+    next as u32
+}
+
+/// A drive of another maker: other starts, stripes that differ by slot, a payload that begins anywhere after the
+/// areas, small counts, disabled records with any count and salt. Each slot is enabled with the given chance out of
+/// 8.
+pub fn foreign(random: &mut Random, d: &mut Derivations, key: &[u8], chance: u64) -> Drive {
+    let mut image = random.bytes(2 * SECTOR);
+    let payload = put_areas(random, &mut image, key.len()) + random.pick(&[0, 0, 1, 8]);
+    put_number(&mut image, at::PAYLOAD, payload);
+    put_head(random, d, &mut image, key);
+    let units = random.range(0, 6);
+    image.resize(payload as usize * SECTOR, 0);
+    let more = random.bytes(units * SECTOR);
+    image.extend_from_slice(&more);
+    let mut drive = Drive { image, key: key.to_vec(), passphrases: Default::default() };
+    for k in 1..=8 {
+        if random.chance(chance, 8) {
+            let passphrase = passphrase(random);
+            enable(random, d, &mut drive, k, &passphrase);
+        }
+    }
+    drive
+}
+
+/// Fills and enables a slot with a small count.
+pub fn enable(random: &mut Random, d: &mut Derivations, drive: &mut Drive, k: u8, passphrase: &[u8]) {
+    let stripes = drive.header().slots[k as usize - 1].stripes as usize;
+    let (salt, count) = (random.salt(), random.range(1, 3) as u32);
+    let stripes_before = random.bytes((stripes - 1) * drive.key.len());
+    d.fill(&mut drive.image, k, &drive.key, passphrase, &salt, count, &stripes_before);
+    drive.passphrases[k as usize - 1] = Some(passphrase.to_vec());
+}
+
+/// A passphrase that is allowed: mostly short, some longer than a block of SHA-1, some as long as can be.
+pub fn passphrase(random: &mut Random) -> Vec<u8> {
+    let length = match random.range(0, 9) {
+        0 => 512,
+        1 => random.range(63, 66),
+        2 => random.range(67, 511),
+        _ => random.range(1, 30),
+    };
+    random.bytes(length)
+}
+
+/// A key of one of the two lengths.
+pub fn key(random: &mut Random) -> Vec<u8> {
+    let length = random.pick(&[32, 64]);
+    random.bytes(length)
+}

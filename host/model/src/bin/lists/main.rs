@@ -1,0 +1,99 @@
+//! Holds the library against the independent model: every set of checks that can fail together, every way of damage,
+//! and seeded random lists of calls. Ends with a failure at the first difference, or if a refusal number was not
+//! reached.
+//!
+//!     lists [--calls N] [--seed S]
+//!
+//! N is the number of calls in the random lists (20,000 if not given); the seed is printed and repeats a run.
+
+mod both;
+mod damage;
+mod drives;
+mod random;
+mod sets;
+mod walks;
+
+use both::Both;
+use model::calls::KINDS;
+use random::Random;
+use std::process::ExitCode;
+use std::time::{Instant, SystemTime, UNIX_EPOCH};
+
+struct Options {
+    calls: usize,
+    seed: u64,
+}
+
+fn options() -> Result<Options, String> {
+    let now = SystemTime::now().duration_since(UNIX_EPOCH).map_or(0, |t| t.as_nanos() as u64);
+    let mut options = Options { calls: 20_000, seed: now };
+    let mut words = std::env::args().skip(1);
+    while let Some(word) = words.next() {
+        let value = words.next().ok_or(format!("{word} needs a number"))?;
+        let number: u64 = value.parse().map_err(|_| format!("{value} is not a number"))?;
+        match word.as_str() {
+            "--calls" => options.calls = number as usize,
+            "--seed" => options.seed = number,
+            _ => return Err(format!("unknown option {word}; known are --calls N and --seed S")),
+        }
+    }
+    Ok(options)
+}
+
+fn run(options: &Options, both: &mut Both) -> Result<(), String> {
+    let mut random = Random::new(options.seed);
+    let sets = sets::run(both, &mut random)?;
+    println!("sets of failing checks, each reached and refused by its first number:");
+    for (name, count) in KINDS.iter().zip(sets) {
+        println!("  {name:10} {count:6}");
+    }
+    println!("ways of damage, before each call: {}", sets::ways(both, &mut random)?);
+    println!("calls on drives of the figures: {}", sets::figures(both, &mut random)?);
+    let (mut made, mut lists) = (0, 0);
+    while made < options.calls {
+        lists += 1;
+        made +=
+            walks::walk(both, &mut random, options.calls - made).map_err(|e| format!("random list {lists}: {e}"))?;
+    }
+    println!("random lists: {lists} with {made} calls");
+    Ok(())
+}
+
+/// The table of calls by kind and number; false if a number of 0 to 20 was never given.
+fn table(both: &Both) -> bool {
+    println!("number   {}     all", KINDS.map(|kind| format!("{kind:>10}")).concat());
+    let mut complete = true;
+    for number in 0..=20 {
+        let row = both.numbers.map(|kind| kind[number]);
+        let all: u64 = row.iter().sum();
+        println!("{number:6}   {}{all:8}", row.map(|n| format!("{n:10}")).concat());
+        complete &= all > 0;
+    }
+    let all: u64 = both.calls.iter().sum();
+    println!("   all   {}{all:8}", both.calls.map(|n| format!("{n:10}")).concat());
+    let accepted = both.numbers.iter().all(|kind| kind[0] > 0);
+    complete && accepted
+}
+
+fn main() -> ExitCode {
+    let options = match options() {
+        Ok(options) => options,
+        Err(message) => {
+            eprintln!("lists: {message}");
+            return ExitCode::from(64);
+        }
+    };
+    println!("seed {}", options.seed);
+    let (began, mut both) = (Instant::now(), Both::new(options.seed));
+    if let Err(message) = run(&options, &mut both) {
+        println!("FAILED with --calls {} --seed {}: {message}", options.calls, options.seed);
+        return ExitCode::FAILURE;
+    }
+    if !table(&both) {
+        println!("FAILED: a refusal number was not reached, or a call was never accepted");
+        return ExitCode::FAILURE;
+    }
+    let calls: u64 = both.calls.iter().sum();
+    println!("{calls} calls agree, {:.1} s", began.elapsed().as_secs_f64());
+    ExitCode::SUCCESS
+}

@@ -1,0 +1,248 @@
+//! Random lists of calls on one drive: formatted, foreign or damaged, with arguments that are mostly fair.
+
+use crate::both::Both;
+use crate::damage;
+use crate::drives::{self, foreign, Drive};
+use crate::random::Random;
+use model::header::layout;
+use model::xts::SECTOR;
+use model::Call;
+
+/// One list of calls, at most `most` of them; gives how many were made.
+pub fn walk(both: &mut Both, random: &mut Random, most: usize) -> Result<usize, String> {
+    let mut made = 0;
+    let mut drive = start(both, random, &mut made)?;
+    let length = random.range(5, 40);
+    while made < most && made < length {
+        if random.chance(1, 30) {
+            disturb(random, &mut drive.image);
+        }
+        let call = some_call(random, &drive);
+        let number = both.run(&mut drive.image, &call)?;
+        if number == 0 {
+            drive.learn(&call);
+        }
+        made += 1;
+    }
+    Ok(made)
+}
+
+/// A byte anywhere beyond the header becomes another.
+fn disturb(random: &mut Random, image: &mut [u8]) {
+    if image.len() > 592 {
+        let at = random.range(592, image.len() - 1);
+        image[at] ^= random.range(1, 255) as u8;
+    }
+}
+
+fn start(both: &mut Both, random: &mut Random, made: &mut usize) -> Result<Drive, String> {
+    let key = drives::key(random);
+    let kind = random.range(0, 9);
+    if kind < 4 {
+        *made += 1;
+        return formatted(both, random, key);
+    }
+    let chance = random.range(1, 6) as u64;
+    let mut drive = foreign(random, &mut both.model.derivations, &key, chance);
+    if kind >= 8 {
+        wreck(random, &mut drive.image);
+    }
+    Ok(drive)
+}
+
+fn formatted(both: &mut Both, random: &mut Random, key: Vec<u8>) -> Result<Drive, String> {
+    let call = fair_format(random, key.clone());
+    let Call::Format { stripes, .. } = &call else { unreachable!("a format") };
+    let sectors = layout(*stripes, key.len()).1 as usize + random.range(0, 6);
+    let mut drive = Drive { image: random.bytes(sectors * SECTOR), key, passphrases: Default::default() };
+    match both.run(&mut drive.image, &call)? {
+        0 => Ok(drive),
+        number => Err(format!("a fair format is refused by {number}: {call:?}")),
+    }
+}
+
+fn fair_format(random: &mut Random, key: Vec<u8>) -> Call {
+    let uuid = (0..36).map(|_| random.range(33, 126) as u8).collect();
+    let profile = key.len() as u8 / 32;
+    let stripes = random.range(1, 20) as u32;
+    Call::Format { profile, stripes, key, salt: random.salt(), count: random.range(1000, 1003) as u32, uuid }
+}
+
+/// One to three ways of damage, some bytes of the header, or nothing but random bytes.
+fn wreck(random: &mut Random, image: &mut Vec<u8>) {
+    match random.range(0, 4) {
+        0 => *image = random.bytes(image.len().min(20_000)),
+        1 => {
+            for _ in 0..random.range(1, 3) {
+                let at = random.range(0, 591);
+                image[at] ^= 1 << random.range(0, 7);
+            }
+        }
+        _ => {
+            for _ in 0..random.range(1, 3) {
+                // A way may shorten the image so much that the next has no header to damage.
+                if image.len() >= 2 * SECTOR {
+                    (random.pick(&damage::WAYS).2)(random, image);
+                }
+            }
+        }
+    }
+    damage::calm(image);
+}
+
+/// One time in `RARE`, an argument is not as it should be.
+const RARE: u64 = 14;
+
+fn some_call(r: &mut Random, drive: &Drive) -> Call {
+    match r.range(0, 31) {
+        0 => format(r),
+        1..=6 => add(r, drive),
+        7..=11 => open_slot(r, drive),
+        12..=15 => Call::Open { passphrase: known_passphrase(r, drive) },
+        16..=20 => change(r, drive),
+        21..=23 => revoke(r, drive),
+        24..=27 => read(r, drive),
+        _ => write(r, drive),
+    }
+}
+
+fn format(r: &mut Random) -> Call {
+    let key = drives::key(r);
+    let mut call = fair_format(r, key);
+    let Call::Format { profile, stripes, key, count, uuid, .. } = &mut call else { unreachable!("a format") };
+    if r.chance(1, RARE) {
+        *profile = r.byte();
+    }
+    if r.chance(1, RARE) {
+        *stripes = r.pick(&[0, 4001, u32::MAX, 4000, 300]);
+    }
+    if r.chance(1, RARE) {
+        *key = r.bytes_up_to(70);
+    }
+    if r.chance(1, RARE) {
+        *count = r.range(0, 1000) as u32;
+    }
+    if r.chance(1, RARE) {
+        *uuid = r.bytes(36);
+    }
+    call
+}
+
+fn slot(r: &mut Random) -> u8 {
+    if r.chance(1, RARE) {
+        r.pick(&[0, 9, 10, 64, 200, 255])
+    } else {
+        r.range(1, 8) as u8
+    }
+}
+
+/// A slot in the wanted state, if the drive has one and most of the time.
+fn slot_that_is(r: &mut Random, drive: &Drive, enabled: bool) -> u8 {
+    let h = drive.header();
+    let such: Vec<u8> = (1..=8).filter(|k| h.slots[*k as usize - 1].enabled() == enabled).collect();
+    if such.is_empty() || r.chance(1, RARE) {
+        slot(r)
+    } else {
+        r.pick(&such)
+    }
+}
+
+fn key(r: &mut Random, drive: &Drive) -> Vec<u8> {
+    match r.range(0, 3 * RARE as usize) {
+        0 => r.bytes(drive.key.len()),
+        1 => r.bytes_up_to(70),
+        2 => [&drive.key[..], &[0]].concat(),
+        _ => drive.key.clone(),
+    }
+}
+
+fn new_passphrase(r: &mut Random) -> Vec<u8> {
+    if r.chance(1, RARE) {
+        let length = r.pick(&[0, 0, 513, 600]);
+        r.bytes(length)
+    } else {
+        drives::passphrase(r)
+    }
+}
+
+/// A passphrase that some slot was given, most of the time.
+fn known_passphrase(r: &mut Random, drive: &Drive) -> Vec<u8> {
+    let known: Vec<_> = drive.passphrases.iter().flatten().collect();
+    if known.is_empty() || r.chance(1, 5) {
+        new_passphrase(r)
+    } else {
+        r.pick(&known).clone()
+    }
+}
+
+/// The slot's own passphrase, most of the time.
+fn passphrase_of(r: &mut Random, drive: &Drive, slot: u8) -> Vec<u8> {
+    let own = drive.passphrases.get((slot as usize).wrapping_sub(1)).cloned().flatten();
+    match own {
+        Some(own) if !r.chance(1, 10) => own,
+        _ => known_passphrase(r, drive),
+    }
+}
+
+fn count(r: &mut Random) -> u32 {
+    if r.chance(1, RARE) {
+        r.pick(&[0, 1, 998, 999])
+    } else {
+        r.range(1000, 1002) as u32
+    }
+}
+
+/// Bytes for the stripes of a slot, the last left out if `less` is 1.
+fn stripes(r: &mut Random, drive: &Drive, slot: u8, less: u64) -> Vec<u8> {
+    let h = drive.header();
+    let n = h.slot(slot).map_or(3, |s| s.stripes) as u64;
+    let right = n.saturating_sub(less).min(4000) * h.key_bytes.min(64) as u64;
+    let length = if r.chance(1, RARE) { r.pick(&[0, 1, right + 1, right + 64, right / 2]) } else { right };
+    r.bytes(length as usize)
+}
+
+fn add(r: &mut Random, drive: &Drive) -> Call {
+    let slot = slot_that_is(r, drive, false);
+    let (key, passphrase, salt, count) = (key(r, drive), new_passphrase(r), r.salt(), count(r));
+    let random = stripes(r, drive, slot, 1);
+    Call::Add { slot, key, passphrase, salt, count, random }
+}
+
+fn open_slot(r: &mut Random, drive: &Drive) -> Call {
+    let slot = slot_that_is(r, drive, true);
+    Call::OpenSlot { slot, passphrase: passphrase_of(r, drive, slot) }
+}
+
+fn change(r: &mut Random, drive: &Drive) -> Call {
+    let (from, to) = (slot_that_is(r, drive, true), slot_that_is(r, drive, false));
+    let (old, new) = (passphrase_of(r, drive, from), new_passphrase(r));
+    let (random, filler) = (stripes(r, drive, to, 1), stripes(r, drive, from, 0));
+    Call::Change { from, old, to, new, salt: r.salt(), count: count(r), random, filler }
+}
+
+fn revoke(r: &mut Random, drive: &Drive) -> Call {
+    let slot = slot_that_is(r, drive, true);
+    Call::Revoke { slot, filler: stripes(r, drive, slot, 0) }
+}
+
+/// First unit, number of units and the buffer's length.
+fn span(r: &mut Random, drive: &Drive) -> (u64, u64, usize) {
+    let whole = drive.image.len() / SECTOR;
+    let payload = whole.saturating_sub(drive.header().payload as usize);
+    let units = r.range(0, payload);
+    let first = r.range(0, payload - units) as u64;
+    let first = if r.chance(1, RARE) { r.pick(&[payload as u64 + 1, u64::MAX, 1 << 55]) } else { first };
+    let length = units * SECTOR;
+    let length = if r.chance(1, RARE) { r.pick(&[0, length + 1, length + SECTOR, length / 2]) } else { length };
+    (first, units as u64, length)
+}
+
+fn read(r: &mut Random, drive: &Drive) -> Call {
+    let (first, units, length) = span(r, drive);
+    Call::Read { key: key(r, drive), first, units, buffer: r.bytes(length) }
+}
+
+fn write(r: &mut Random, drive: &Drive) -> Call {
+    let (first, units, length) = span(r, drive);
+    Call::Write { key: key(r, drive), first, units, buffer: r.bytes(length) }
+}

@@ -1,0 +1,345 @@
+//! The eight calls on an image: what each refuses, what it answers and the image afterwards.
+
+use crate::header::{self, at, put, put_number, Header, Slot, DISABLED};
+use crate::slots::{empty, Derivations};
+use crate::xts::{self, Way, SECTOR};
+
+/// A call with its arguments, other than the image.
+#[derive(Clone, Debug, PartialEq)]
+pub enum Call {
+    Format {
+        profile: u8,
+        stripes: u32,
+        key: Vec<u8>,
+        salt: [u8; 32],
+        count: u32,
+        uuid: Vec<u8>,
+    },
+    Add {
+        slot: u8,
+        key: Vec<u8>,
+        passphrase: Vec<u8>,
+        salt: [u8; 32],
+        count: u32,
+        random: Vec<u8>,
+    },
+    OpenSlot {
+        slot: u8,
+        passphrase: Vec<u8>,
+    },
+    Open {
+        passphrase: Vec<u8>,
+    },
+    Change {
+        from: u8,
+        old: Vec<u8>,
+        to: u8,
+        new: Vec<u8>,
+        salt: [u8; 32],
+        count: u32,
+        random: Vec<u8>,
+        filler: Vec<u8>,
+    },
+    Revoke {
+        slot: u8,
+        filler: Vec<u8>,
+    },
+    /// `buffer` is what the lent buffer holds before.
+    Read {
+        key: Vec<u8>,
+        first: u64,
+        units: u64,
+        buffer: Vec<u8>,
+    },
+    Write {
+        key: Vec<u8>,
+        first: u64,
+        units: u64,
+        buffer: Vec<u8>,
+    },
+}
+
+pub const KINDS: [&str; 8] = ["format", "add", "open_slot", "open", "change", "revoke", "read", "write"];
+
+impl Call {
+    /// The place of the call's name in `KINDS`.
+    pub fn kind(&self) -> usize {
+        match self {
+            Call::Format { .. } => 0,
+            Call::Add { .. } => 1,
+            Call::OpenSlot { .. } => 2,
+            Call::Open { .. } => 3,
+            Call::Change { .. } => 4,
+            Call::Revoke { .. } => 5,
+            Call::Read { .. } => 6,
+            Call::Write { .. } => 7,
+        }
+    }
+}
+
+/// What a call gives.
+#[derive(Clone, Debug, PartialEq)]
+pub struct Outcome {
+    /// 0, or the number of the refusal.
+    pub number: u8,
+    /// Of an opening: slot, key length, the key and zeros to 64 bytes; all zero when refused, and for other calls.
+    pub opened: [u8; 66],
+    /// Of a read: the lent buffer afterwards.
+    pub buffer: Vec<u8>,
+    pub image: Vec<u8>,
+}
+
+/// The numbers of the checks that fail, in the order of the checks: up to the first, or all.
+struct Findings {
+    all: bool,
+    failing: Vec<u8>,
+}
+
+impl Findings {
+    fn check(&mut self, number: u8, fails: impl FnOnce() -> bool) {
+        if (self.all || self.failing.is_empty()) && fails() {
+            self.failing.push(number);
+        }
+    }
+}
+
+fn bad_passphrase(passphrase: &[u8]) -> bool {
+    !(1..=512).contains(&passphrase.len())
+}
+
+fn bad_uuid(uuid: &[u8]) -> bool {
+    uuid.len() != 36 || uuid.iter().any(|b| !(33..=126).contains(b))
+}
+
+/// Check 16 refuses these bytes: they are not so many stripes.
+fn not_stripes(bytes: &[u8], stripes: u32, key_bytes: u32) -> bool {
+    bytes.len() as u128 != stripes as u128 * key_bytes as u128
+}
+
+/// The units of the payload: none where it begins beyond the image.
+fn payload_units(header: &Header, image_len: usize) -> u64 {
+    (image_len as u64 / SECTOR as u64).saturating_sub(header.payload as u64)
+}
+
+#[derive(Default)]
+pub struct Model {
+    pub derivations: Derivations,
+}
+
+impl Model {
+    /// The first number that refuses the call, or 0.
+    pub fn number(&mut self, image: &[u8], call: &Call) -> u8 {
+        self.checks(image, call, false).first().copied().unwrap_or(0)
+    }
+
+    /// Every number whose check fails, in order. A check that speaks of a slot or profile that is not there does not
+    /// fail.
+    pub fn failing(&mut self, image: &[u8], call: &Call) -> Vec<u8> {
+        self.checks(image, call, true)
+    }
+
+    fn checks(&mut self, image: &[u8], call: &Call, all: bool) -> Vec<u8> {
+        let mut f = Findings { all, failing: Vec::new() };
+        let h = Header::read(image);
+        if let Call::Format { profile, stripes, key, count, uuid, .. } = call {
+            format_checks(&mut f, image.len(), *profile, *stripes, key, *count, uuid);
+            return f.failing;
+        }
+        for (number, refused) in h.refusals(image.len()) {
+            f.check(number, || refused);
+        }
+        let d = &mut self.derivations;
+        match call {
+            Call::Format { .. } => unreachable!("judged above"),
+            Call::Add { slot, key, passphrase, count, random, .. } => {
+                let record = h.slot(*slot);
+                f.check(13, || record.is_none());
+                f.check(15, || record.is_some_and(Slot::enabled));
+                f.check(9, || key.len() != h.key_bytes as usize);
+                f.check(14, || bad_passphrase(passphrase));
+                f.check(10, || *count < header::SMALLEST_COUNT);
+                f.check(16, || record.is_some_and(|s| not_stripes(random, s.stripes.saturating_sub(1), h.key_bytes)));
+                f.check(17, || !d.has_checksum(&h, key));
+            }
+            Call::OpenSlot { slot, passphrase } => {
+                let record = h.slot(*slot);
+                f.check(13, || record.is_none());
+                f.check(14, || bad_passphrase(passphrase));
+                f.check(15, || record.is_some_and(|s| !s.enabled()));
+                f.check(17, || record.is_some_and(|s| d.candidate(image, &h, s, passphrase).is_none()));
+            }
+            Call::Open { passphrase } => {
+                f.check(14, || bad_passphrase(passphrase));
+                f.check(17, || search(d, image, &h, passphrase).is_none());
+            }
+            Call::Change { from, old, to, new, count, random, filler, .. } => {
+                let (first, second) = (h.slot(*from), h.slot(*to));
+                f.check(13, || first.is_none() || second.is_none());
+                f.check(15, || first.is_some_and(|s| !s.enabled()) || second.is_some_and(Slot::enabled));
+                f.check(14, || bad_passphrase(old) || bad_passphrase(new));
+                f.check(10, || *count < header::SMALLEST_COUNT);
+                f.check(16, || {
+                    second.is_some_and(|s| not_stripes(random, s.stripes.saturating_sub(1), h.key_bytes))
+                        || first.is_some_and(|s| not_stripes(filler, s.stripes, h.key_bytes))
+                });
+                f.check(17, || first.is_some_and(|s| d.candidate(image, &h, s, old).is_none()));
+            }
+            Call::Revoke { slot, filler } => {
+                let record = h.slot(*slot);
+                let another = || (1..=8).any(|k| k != *slot && h.slot(k).is_some_and(Slot::enabled));
+                f.check(13, || record.is_none());
+                f.check(15, || record.is_some_and(|s| !s.enabled()));
+                f.check(18, || record.is_some() && !another());
+                f.check(16, || record.is_some_and(|s| not_stripes(filler, s.stripes, h.key_bytes)));
+            }
+            Call::Read { key, first, units, buffer } | Call::Write { key, first, units, buffer } => {
+                let payload = payload_units(&h, image.len()) as u128;
+                f.check(9, || key.len() != h.key_bytes as usize);
+                f.check(19, || *first as u128 + *units as u128 > payload);
+                f.check(20, || buffer.len() as u128 != SECTOR as u128 * *units as u128);
+                f.check(17, || !d.has_checksum(&h, key));
+            }
+        }
+        f.failing
+    }
+
+    /// The call's outcome. A refused call alters nothing.
+    pub fn step(&mut self, image: &[u8], call: &Call) -> Outcome {
+        let buffer = if let Call::Read { buffer, .. } = call { buffer.clone() } else { Vec::new() };
+        let number = self.number(image, call);
+        let mut out = Outcome { number, opened: [0; 66], buffer, image: image.to_vec() };
+        if number == 0 {
+            self.accept(&mut out, call);
+        }
+        out
+    }
+
+    /// An accepted call: `out` holds the image before, and then what the call gives.
+    fn accept(&mut self, out: &mut Outcome, call: &Call) {
+        let h = Header::read(&out.image);
+        let d = &mut self.derivations;
+        let payload = h.payload as u64;
+        match call {
+            Call::Format { profile, stripes, key, salt, count, uuid } => {
+                let checksum = d.derive(key, salt, *count, 20);
+                format(&mut out.image, *profile, *stripes, &checksum, salt, *count, uuid);
+            }
+            Call::Add { slot, key, passphrase, salt, count, random } => {
+                d.fill(&mut out.image, *slot, key, passphrase, salt, *count, random);
+            }
+            Call::OpenSlot { slot, passphrase } => {
+                let record = &h.slots[*slot as usize - 1];
+                let key = d.candidate(&out.image, &h, record, passphrase).expect("check 17 passed");
+                out.opened = answer(*slot, &key);
+            }
+            Call::Open { passphrase } => {
+                let (slot, key) = search(d, &out.image, &h, passphrase).expect("check 17 passed");
+                out.opened = answer(slot, &key);
+            }
+            Call::Change { from, old, to, new, salt, count, random, filler } => {
+                let record = &h.slots[*from as usize - 1];
+                let key = d.candidate(&out.image, &h, record, old).expect("check 17 passed");
+                d.fill(&mut out.image, *to, &key, new, salt, *count, random);
+                empty(&mut out.image, *from, filler);
+            }
+            Call::Revoke { slot, filler } => empty(&mut out.image, *slot, filler),
+            Call::Read { key, first, .. } => {
+                let begin = (payload + first) as usize * SECTOR;
+                let length = out.buffer.len();
+                out.buffer.copy_from_slice(&out.image[begin..begin + length]);
+                xts::run(key, *first, &mut out.buffer, Way::Decipher);
+            }
+            Call::Write { key, first, buffer, .. } => {
+                let begin = (payload + first) as usize * SECTOR;
+                let sectors = &mut out.image[begin..begin + buffer.len()];
+                sectors.copy_from_slice(buffer);
+                xts::run(key, *first, sectors, Way::Encipher);
+            }
+        }
+    }
+}
+
+fn format_checks(f: &mut Findings, image_len: usize, profile: u8, stripes: u32, key: &[u8], count: u32, uuid: &[u8]) {
+    let length = header::key_length(profile);
+    f.check(1, || header::bad_length(image_len));
+    f.check(7, || length.is_none());
+    f.check(8, || !(1..=header::MAX_STRIPES).contains(&stripes));
+    f.check(9, || length.is_some_and(|l| key.len() != l));
+    f.check(10, || length.is_some() && count < header::SMALLEST_COUNT);
+    f.check(11, || bad_uuid(uuid));
+    f.check(12, || length.is_some_and(|l| (image_len as u64) < header::layout(stripes, l).1 * SECTOR as u64));
+}
+
+/// Zeroes everything before the payload, then writes the header.
+fn format(image: &mut [u8], profile: u8, stripes: u32, checksum: &[u8], salt: &[u8; 32], count: u32, uuid: &[u8]) {
+    let length = header::key_length(profile).expect("check 7 passed");
+    let (starts, payload) = header::layout(stripes, length);
+    image[..payload as usize * SECTOR].fill(0);
+    put(image, at::MAGIC, &header::MAGIC);
+    put(image, at::VERSION, &header::VERSION.to_be_bytes());
+    for (at, name) in at::NAMES.into_iter().zip(header::NAMES) {
+        put(image, at, name.as_bytes());
+    }
+    put_number(image, at::PAYLOAD, payload as u32);
+    put_number(image, at::KEY_BYTES, length as u32);
+    put(image, at::CHECKSUM, checksum);
+    put(image, at::SALT, salt);
+    put_number(image, at::COUNT, count);
+    put(image, at::UUID, uuid);
+    for (k, start) in (1..).zip(starts) {
+        Slot { state: DISABLED, count: 0, salt: [0; 32], start: start as u32, stripes }.write(image, k);
+    }
+}
+
+/// The first enabled slot, from 1 to 8, whose candidate has the header's checksum, and that candidate.
+fn search(d: &mut Derivations, image: &[u8], h: &Header, passphrase: &[u8]) -> Option<(u8, Vec<u8>)> {
+    let enabled = (1..).zip(&h.slots).filter(|(_, slot)| slot.enabled());
+    enabled.into_iter().find_map(|(k, slot)| d.candidate(image, h, slot, passphrase).map(|key| (k, key)))
+}
+
+fn answer(slot: u8, key: &[u8]) -> [u8; 66] {
+    let mut opened = [0; 66];
+    opened[0] = slot;
+    opened[1] = key.len() as u8;
+    opened[2..2 + key.len()].copy_from_slice(key);
+    opened
+}
+
+#[cfg(test)]
+mod tests {
+    use super::*;
+
+    /// For payload 65: 33,280 bytes pass, 33,279 give 1, 32,768 give 12.
+    #[test]
+    fn figures_of_format() {
+        let uuid = vec![b'u'; 36];
+        let call = Call::Format { profile: 1, stripes: 1, key: vec![1; 32], salt: [2; 32], count: 1000, uuid };
+        let numbers = [33_280, 33_279, 32_768].map(|bytes| Model::default().number(&vec![0; bytes], &call));
+        assert_eq!(numbers, [0, 1, 12]);
+    }
+
+    #[test]
+    fn a_life() {
+        let mut model = Model::default();
+        let (key, salt) = (vec![5; 32], [6; 32]);
+        let mut image = vec![9; 66 * SECTOR];
+        let mut step = |call: Call| {
+            let out = model.step(&image, &call);
+            image = out.image.clone();
+            out
+        };
+        let (old, new) = (b"old".to_vec(), b"new".to_vec());
+        let uuid = vec![b'u'; 36];
+        step(Call::Format { profile: 1, stripes: 3, key: key.clone(), salt, count: 1000, uuid });
+        step(Call::Add { slot: 7, key: key.clone(), passphrase: old.clone(), salt, count: 1000, random: vec![1; 64] });
+        let (random, filler) = (vec![2; 64], vec![3; 96]);
+        let change =
+            Call::Change { from: 7, old: old.clone(), to: 2, new: new.clone(), salt, count: 1000, random, filler };
+        assert_eq!(step(change).number, 0);
+        assert_eq!(step(Call::Open { passphrase: old }).number, 17);
+        let opened = step(Call::Open { passphrase: new }).opened;
+        assert_eq!((opened[0], opened[1], &opened[2..34]), (2, 32, &key[..]));
+        step(Call::Write { key: key.clone(), first: 0, units: 1, buffer: vec![4; 512] });
+        assert_eq!(step(Call::Read { key, first: 0, units: 1, buffer: vec![0; 512] }).buffer, vec![4; 512]);
+    }
+}

@@ -1,0 +1,220 @@
+//! The header of LUKS 1.2.2, figures 1 to 3: its fields, the profiles, the layout that format makes, and the header
+//! check.
+
+use crate::xts::SECTOR;
+
+pub const HEADER: usize = 592;
+pub const MAGIC: [u8; 6] = [0x4c, 0x55, 0x4b, 0x53, 0xba, 0xbe];
+pub const VERSION: u16 = 1;
+pub const ENABLED: u32 = 0x00ac71f3;
+pub const DISABLED: u32 = 0x0000dead;
+pub const MAX_STRIPES: u32 = 4000;
+pub const SMALLEST_COUNT: u32 = 1000;
+/// Cipher name, cipher mode and hash of both profiles.
+pub const NAMES: [&str; 3] = ["aes", "xts-plain64", "sha1"];
+
+/// Offsets of the fields.
+pub mod at {
+    pub const MAGIC: usize = 0;
+    pub const VERSION: usize = 6;
+    pub const NAMES: [usize; 3] = [8, 40, 72];
+    pub const PAYLOAD: usize = 104;
+    pub const KEY_BYTES: usize = 108;
+    pub const CHECKSUM: usize = 112;
+    pub const SALT: usize = 132;
+    pub const COUNT: usize = 164;
+    pub const UUID: usize = 168;
+    /// The record of slot k, and in a record:
+    pub const fn slot(k: usize) -> usize {
+        208 + 48 * (k - 1)
+    }
+    pub const STATE: usize = 0;
+    pub const SLOT_COUNT: usize = 4;
+    pub const SLOT_SALT: usize = 8;
+    pub const START: usize = 40;
+    pub const STRIPES: usize = 44;
+}
+
+/// The key length of a profile's number.
+pub fn key_length(profile: u8) -> Option<usize> {
+    match profile {
+        1 => Some(32),
+        2 => Some(64),
+        _ => None,
+    }
+}
+
+#[derive(Clone, Debug, PartialEq)]
+pub struct Slot {
+    pub state: u32,
+    pub count: u32,
+    pub salt: [u8; 32],
+    pub start: u32,
+    pub stripes: u32,
+}
+
+#[derive(Clone, Debug)]
+pub struct Header {
+    pub magic: [u8; 6],
+    pub version: u16,
+    pub names: [[u8; 32]; 3],
+    /// In sectors.
+    pub payload: u32,
+    pub key_bytes: u32,
+    pub checksum: [u8; 20],
+    pub salt: [u8; 32],
+    pub count: u32,
+    /// Slots 1 to 8 stand at 0 to 7.
+    pub slots: [Slot; 8],
+}
+
+fn bytes<const N: usize>(from: &[u8], at: usize) -> [u8; N] {
+    std::array::from_fn(|i| from[at + i])
+}
+
+fn number(from: &[u8], at: usize) -> u32 {
+    u32::from_be_bytes(bytes(from, at))
+}
+
+pub fn put(image: &mut [u8], at: usize, bytes: &[u8]) {
+    image[at..at + bytes.len()].copy_from_slice(bytes);
+}
+
+pub fn put_number(image: &mut [u8], at: usize, number: u32) {
+    put(image, at, &number.to_be_bytes());
+}
+
+impl Header {
+    /// The fields of an image's header. Of a shorter image, what is missing reads as zero; check 1 refuses such an
+    /// image.
+    pub fn read(image: &[u8]) -> Header {
+        let mut h = [0u8; HEADER];
+        let whole = image.len().min(HEADER);
+        h[..whole].copy_from_slice(&image[..whole]);
+        Header {
+            magic: bytes(&h, at::MAGIC),
+            version: u16::from_be_bytes(bytes(&h, at::VERSION)),
+            names: at::NAMES.map(|at| bytes(&h, at)),
+            payload: number(&h, at::PAYLOAD),
+            key_bytes: number(&h, at::KEY_BYTES),
+            checksum: bytes(&h, at::CHECKSUM),
+            salt: bytes(&h, at::SALT),
+            count: number(&h, at::COUNT),
+            slots: std::array::from_fn(|i| Slot::read(&h, i + 1)),
+        }
+    }
+
+    /// A slot by its number, 1 to 8.
+    pub fn slot(&self, k: u8) -> Option<&Slot> {
+        (1..=8).contains(&k).then(|| &self.slots[k as usize - 1])
+    }
+
+    /// Check 4 passes: some profile has these names and this key length.
+    fn has_profile(&self) -> bool {
+        let named = self.names.iter().zip(NAMES).all(|(field, name)| text(field) == Some(name.as_bytes()));
+        named && (self.key_bytes == 32 || self.key_bytes == 64)
+    }
+
+    /// Check 5 passes.
+    fn has_fair_records(&self) -> bool {
+        self.count != 0
+            && self.slots.iter().all(|s| {
+                (s.state == ENABLED || s.state == DISABLED)
+                    && (1..=MAX_STRIPES).contains(&s.stripes)
+                    && !(s.enabled() && s.count == 0)
+            })
+    }
+
+    /// Check 6 passes. Numbers are wide enough that nothing wraps.
+    fn fits(&self, image_len: usize) -> bool {
+        let payload = self.payload as u128 * SECTOR as u128;
+        let areas: Vec<(u128, u128)> = self.slots.iter().map(|s| s.area(self.key_bytes)).collect();
+        let inside = areas.iter().all(|(begin, end)| *begin >= 2 * SECTOR as u128 && *end <= payload);
+        let apart = |i: usize, j: usize| areas[i].0.max(areas[j].0) >= areas[i].1.min(areas[j].1);
+        payload <= image_len as u128 && inside && (0..8).all(|j| (0..j).all(|i| apart(i, j)))
+    }
+
+    /// The numbers of the header check and whether each refuses this image, in order.
+    pub fn refusals(&self, image_len: usize) -> [(u8, bool); 6] {
+        [
+            (1, bad_length(image_len)),
+            (2, self.magic != MAGIC),
+            (3, self.version != VERSION),
+            (4, !self.has_profile()),
+            (5, !self.has_fair_records()),
+            (6, !self.fits(image_len)),
+        ]
+    }
+}
+
+impl Slot {
+    fn read(header: &[u8], k: usize) -> Slot {
+        let record = at::slot(k);
+        Slot {
+            state: number(header, record + at::STATE),
+            count: number(header, record + at::SLOT_COUNT),
+            salt: bytes(header, record + at::SLOT_SALT),
+            start: number(header, record + at::START),
+            stripes: number(header, record + at::STRIPES),
+        }
+    }
+
+    pub fn enabled(&self) -> bool {
+        self.state == ENABLED
+    }
+
+    /// Where the area's n x L bytes begin and end.
+    pub fn area(&self, key_bytes: u32) -> (u128, u128) {
+        let begin = self.start as u128 * SECTOR as u128;
+        (begin, begin + self.stripes as u128 * key_bytes as u128)
+    }
+
+    pub fn write(&self, image: &mut [u8], k: usize) {
+        let record = at::slot(k);
+        put_number(image, record + at::STATE, self.state);
+        put_number(image, record + at::SLOT_COUNT, self.count);
+        put(image, record + at::SLOT_SALT, &self.salt);
+        put_number(image, record + at::START, self.start);
+        put_number(image, record + at::STRIPES, self.stripes);
+    }
+}
+
+/// Check 1 refuses.
+pub fn bad_length(image_len: usize) -> bool {
+    image_len < 2 * SECTOR || image_len % SECTOR != 0
+}
+
+/// A text field's bytes before its first zero byte.
+fn text(field: &[u8]) -> Option<&[u8]> {
+    field.iter().position(|b| *b == 0).map(|end| &field[..end])
+}
+
+/// Where format puts the eight areas and the payload, in sectors.
+pub fn layout(stripes: u32, key_length: usize) -> ([u64; 8], u64) {
+    let sectors = stripes as u64 * key_length as u64 / SECTOR as u64 + 1;
+    let mut next = 2;
+    let starts = std::array::from_fn(|_| {
+        let start = u64::div_ceil(next, 8) * 8;
+        next = start + sectors;
+        start
+    });
+    (starts, next)
+}
+
+#[cfg(test)]
+mod tests {
+    use super::*;
+
+    #[test]
+    fn figures() {
+        assert_eq!(layout(4000, 32), ([8, 264, 520, 776, 1032, 1288, 1544, 1800], 2051));
+        assert_eq!(layout(4000, 64), ([8, 512, 1016, 1520, 2024, 2528, 3032, 3536], 4037));
+        assert_eq!([1, 15, 16].map(|n| layout(n, 32).1), [65, 65, 66]);
+    }
+
+    #[test]
+    fn a_text_ends_at_its_first_zero_byte() {
+        assert_eq!(text(b"aes\0later\0"), Some(&b"aes"[..]));
+        assert_eq!(text(b"aes"), None);
+    }
+}

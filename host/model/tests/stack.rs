@@ -1,0 +1,34 @@
+//! Every call runs in a thread with 64 KiB of stack, the binding's wiping included. A call that needed more would end
+//! the test program by a fault.
+
+use mivrozh::raw;
+
+const STACK: usize = 64 * 1024;
+
+fn calls(image: &mut [u8], numbers: &mut [u8; 8]) {
+    let (key, salt, stripes, filler) = ([5; 64], [6; 32], [7; 64], [8; 128]);
+    let (mut opened, mut buffer) = ([0; 66], [0; 512]);
+    numbers[0] = raw::format(image, 2, 2, &key, &salt, 1000, &[b'u'; 36]);
+    numbers[1] = raw::add(image, 1, &key, b"old", &salt, 1000, &stripes);
+    numbers[2] = raw::change(image, 1, b"old", 2, b"new", &salt, 1000, &stripes, &filler);
+    numbers[3] = raw::open(image, b"new", &mut opened);
+    numbers[4] = raw::open_slot(image, 2, b"new", &mut opened);
+    numbers[5] = raw::write(image, &key, 0, 1, &[9; 512]);
+    numbers[6] = raw::read(image, &key, 0, 1, &mut buffer);
+    raw::add(image, 3, &key, b"third", &salt, 1000, &stripes);
+    numbers[7] = raw::revoke(image, 3, &filler);
+}
+
+#[test]
+fn every_call_runs_in_64_kib_of_stack() {
+    let (mut image, mut numbers) = (vec![0; 66 * 512], [255; 8]);
+    std::thread::scope(|scope| {
+        let thread = std::thread::Builder::new().stack_size(STACK);
+        thread
+            .spawn_scoped(scope, || calls(&mut image, &mut numbers))
+            .expect("a thread starts")
+            .join()
+            .expect("it ends");
+    });
+    assert_eq!(numbers, [0; 8]);
+}

@@ -42,12 +42,13 @@ fn newest(path: &Path) -> Option<SystemTime> {
     entries.flatten().filter_map(|entry| newest(&entry.path())).max()
 }
 
+// Proves what the library needs, on all processors, and then writes it.
 fn build(root: &Path) {
-    let problem = match Command::new("rt").args(["staticlib", "capi"]).current_dir(root).status() {
-        Ok(status) if status.success() => return,
-        Ok(status) => format!("rt staticlib capi failed ({status}); run it in {} to see why", root.display()),
-        Err(error) => format!("rt, the command of the Rattle toolchain, cannot be run: {error}"),
-    };
-    println!("cargo::error={problem}");
-    std::process::exit(1);
+    for task in ["check", "staticlib"] {
+        match Command::new("rt").args([task, "capi"]).current_dir(root).status() {
+            Ok(status) if status.success() => {}
+            Ok(status) => panic!("rt {task} capi failed ({status}); run it in {} to see why", root.display()),
+            Err(error) => panic!("rt, the command of the Rattle toolchain, cannot be run: {error}"),
+        }
+    }
 }

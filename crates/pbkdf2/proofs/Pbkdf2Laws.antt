@@ -2,10 +2,9 @@
 use mathlib.Core.Path.{_≡_, sym, ap, ap₂, _∙_}
 use mathlib.Core.List.{List, _++_}
 use Prim.Native.Nat.{ℕ, zero, suc, _+_, _-_, _*_, _≤_, _<_, min}
-use native.Mathlib.Nat.{mul-suc, mul-comm, lt-div-mul-add}
-use native.Mathlib.Numerals.{add-one}
+use native.Mathlib.Nat.{mul-suc, mul-add, mul-comm, lt-div-mul-add}
 use native.Mathlib.Omega.{arith}
-use lib.ListN.{length, take}
+use lib.ListN.{length, take, length-take}
 use lib.Seq.{take-all, take-append-add, length-take-le}
 use Rattle.octets.specs.Octets.{Str, bigEndian, xors}
 use Rattle.octets.specs.Splice.{splice}
@@ -44,6 +43,24 @@ str-folded D f u (suc n) hf h = str-xors (f (iterated f u n)) (str-folded D f u 
 pieceCount-covers : (D n : ℕ) → 1 ≤ D → n ≤ D * pieceCount D n
 pieceCount-covers D n h = omega (arith, lt-div-mul-add {a = n + (D - 1)} {b = D} h, mul-comm D (pieceCount D n))
 
+-- a turn of a loop over blocks of D bytes: T n are the first n of them, and of the m blocks t after the first j, e bytes, all but at
+-- the end, go to their place in out
+pub blocks-more : (D : ℕ) (T : ℕ → List ℕ) (out out′ t : List ℕ) (j m n e : ℕ) → length t ≡ D * m → length out ≡ n → D * j < n
+    → e ≡ min (D * m) (n - D * j) → T (j + m) ≡ T j ++ t → out′ ≡ splice out (D * j) (take e t)
+    → take (D * j) out ≡ take (length out) (T j) → take (D * (j + m)) out′ ≡ take (length out′) (T (j + m))
+blocks-more D T out out′ t j m n e lt lo h ee et eo i =
+    let q : ℕ = D * j in
+    let a : D * (j + m) ≡ q + D * m = mul-add D j m in
+    let lT : length (T j) ≡ q = omega (arith, ap length i, length-take q out, length-take (length out) (T j)) in
+    let le : length (take e t) ≡ e = length-take-le e t (omega arith) in
+    let lo′ : length out′ ≡ n = ap length eo ∙ length-splice out q (take e t) (omega arith) ∙ lo in
+    let b : q + e ≡ q + length (take e t) = omega arith in
+    let d : length out′ ≡ length (T j) + (n - q) = omega arith in
+    take-min (D * (j + m)) (q + e) out′ (omega arith)
+    ∙ ap₂ take b eo ∙ take-splice out q (take e t) (omega arith)
+    ∙ ap₂ _++_ (i ∙ take-all (length out) (T j) (omega arith)) (sym (take-min (n - q) e t (omega arith)))
+    ∙ sym (ap₂ take d et ∙ take-append-add (T j) t (n - q))
+
 module _ (H : Digest) (L : LawfulDigest H) (p s : List ℕ) (c : ℕ) where
   pub str-F : (i : ℕ) → Str (H .size) (F H p s c i)
   unfolding F
@@ -58,28 +75,7 @@ module _ (H : Digest) (L : LawfulDigest H) (p s : List ℕ) (c : ℕ) where
   unfolding pbkdf2
   str-pbkdf2 n = str-crop n (str-Ts (pieceCount (H .size) n)) (pieceCount-covers (H .size) n (omega (arith, L .at-least)))
 
-  -- ---- the loop over the blocks: e bytes of block j + 1, all but in the last, go to the place after j blocks
-
-  pub Ts-more : (out out′ t : List ℕ) (j n e : ℕ) → length out ≡ n → H .size * j < n → e ≡ min (H .size) (n - H .size * j)
-      → t ≡ F H p s c (j + 1) → out′ ≡ splice out (H .size * j) (take e t) → take (H .size * j) out ≡ take n (Ts H p s c j)
-      → take (H .size * (j + 1)) out′ ≡ take n (Ts H p s c (j + 1))
-  unfolding Ts
-  Ts-more out out′ t j n e lo h ee et eo i =
-      let q : ℕ = H .size * j in
-      let a : H .size * (j + 1) ≡ q + H .size = ap (λ (k : ℕ). H .size * k) (add-one j) ∙ mul-suc (H .size) j in
-      let lT : length (Ts H p s c j) ≡ q = str-Ts j .len in
-      let lF : length (F H p s c (suc j)) ≡ H .size = str-F (suc j) .len in
-      let tF : t ≡ F H p s c (suc j) = et ∙ ap (F H p s c) (add-one j) in
-      let lt : length t ≡ H .size = ap length tF ∙ lF in
-      let le : length (take e t) ≡ e = length-take-le e t (omega arith) in
-      let lo′ : length out′ ≡ n = ap length eo ∙ length-splice out q (take e t) (omega arith) ∙ lo in
-      let b : q + e ≡ q + length (take e t) = omega arith in
-      let d : n ≡ length (Ts H p s c j) + (n - q) = omega arith in
-      take-min (H .size * (j + 1)) (q + e) out′ (omega arith)
-      ∙ ap₂ take b eo ∙ take-splice out q (take e t) (omega arith)
-      ∙ ap₂ _++_ (i ∙ take-all n (Ts H p s c j) (omega arith)) (ap (take e) tF ∙ sym (take-min (n - q) e (F H p s c (suc j)) (omega arith)))
-      ∙ sym (ap₂ (λ (k l : ℕ). take k (Ts H p s c l)) d (add-one j) ∙ take-append-add (Ts H p s c j) (F H p s c (suc j)) (n - q))
-
+  -- all blocks that n bytes need, cropped
   pub Ts-end : (out : List ℕ) (j n : ℕ) → length out ≡ n → j ≡ pieceCount (H .size) n → take (H .size * j) out ≡ take n (Ts H p s c j) → out ≡ pbkdf2 H p s c n
   unfolding pbkdf2
   Ts-end out j n lo ej i =

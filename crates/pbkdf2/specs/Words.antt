@@ -1,9 +1,10 @@
 -- PBKDF2-HMAC-SHA-1 on chaining words, as the inner functions compute it: two compressions for a value of HMAC.
+use mathlib.Core.Path.{_≡_}
 use mathlib.Core.List.{List, [], _∷_, _++_}
-use Prim.Native.Nat.{ℕ, _-_}
-use lib.ListN.{getD}
+use Prim.Native.Nat.{ℕ, zero, suc, _+_, _-_, _*_}
+use lib.ListN.{length, getD, take}
 use Rattle.octets.specs.Octets.{bigEndian}
-use Rattle.sha1.specs.Sha1.{compressWords, finish}
+use Rattle.sha1.specs.Sha1.{compressWords, finish, digest}
 use Rattle.pbkdf2.specs.Pbkdf2.{folded}
 
 -- the last block of a message of one whole block and the five words u: the words, and the padding of 84 bytes
@@ -16,6 +17,27 @@ lastBlock u =
 unfoldable pub prfWords : List ℕ → List ℕ → List ℕ → List ℕ
 prfWords i o u = compressWords o (lastBlock (compressWords i (lastBlock u)))
 
+-- U_1 of T_n
+unfoldable pub firstWords : List ℕ → List ℕ → List ℕ → ℕ → List ℕ
+firstWords i o s n = compressWords o (lastBlock (finish i 64 (s ++ bigEndian 4 n)))
+
 -- T_n, as five words
 unfoldable pub blockWords : List ℕ → List ℕ → List ℕ → ℕ → ℕ → List ℕ
-blockWords i o s c n = folded (prfWords i o) (compressWords o (lastBlock (finish i 64 (s ++ bigEndian 4 n)))) (c - 1)
+blockWords i o s c n = folded (prfWords i o) (firstWords i o s n) (c - 1)
+
+-- the bytes of four lists of words
+abbrev pub fourDigests : List ℕ → List ℕ → List ℕ → List ℕ → List ℕ
+fourDigests a b c d = digest a ++ (digest b ++ (digest c ++ digest d))
+
+-- T_n || .. || T_(n+3)
+abbrev pub fourBlocks : List ℕ → List ℕ → List ℕ → ℕ → ℕ → List ℕ
+fourBlocks i o s c n = fourDigests (blockWords i o s c n) (blockWords i o s c (n + 1)) (blockWords i o s c (n + 2)) (blockWords i o s c (n + 3))
+
+-- T_1 || .. || T_n
+unfoldable pub firstBlocks : List ℕ → List ℕ → List ℕ → ℕ → ℕ → List ℕ
+firstBlocks i o s c zero = []
+firstBlocks i o s c (suc n) = firstBlocks i o s c n ++ digest (blockWords i o s c (suc n))
+
+-- x holds T_1 || .. || T_n, cropped where it ends
+abbrev pub Holds : List ℕ → List ℕ → List ℕ → ℕ → ℕ → List ℕ → Type 0
+Holds i o s c n x = take (20 * n) x ≡ take (length x) (firstBlocks i o s c n)

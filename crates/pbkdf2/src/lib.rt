@@ -1,12 +1,15 @@
-// PBKDF2-HMAC-SHA-1 (RFC 8018), two compressions for a value of HMAC.
+// PBKDF2-HMAC-SHA-1 (RFC 8018), two compressions for a value of HMAC. The blocks of the derived key are made by fours, side by side,
+// and what is left of them one by one.
 ghost use mathlib.Core.Path.{_≡_};
 ghost use mathlib.Core.List.{_++_};
-ghost use Prim.Native.Nat.{_-_, _*_, _≤_, _<_, _^_};
-ghost use lib.ListN.{length};
+ghost use Prim.Native.Nat.{_+_, _-_, _*_, _≤_, _<_, _^_};
+ghost use lib.ListN.{length, take};
 ghost use Rattle.octets.specs.Octets.{bigEndian, xors};
+ghost use Rattle.octets.specs.Pieces.{pieceCount};
 ghost use Rattle.sha1.specs.Sha1.{finish, digest, sha1};
+ghost use Rattle.lanes.specs.Lanes.{Each, lane};
 ghost use Rattle.pbkdf2.specs.Pbkdf2.{folded, pbkdf2};
-ghost use Rattle.pbkdf2.specs.Words.{lastBlock, prfWords, blockWords};
+ghost use Rattle.pbkdf2.specs.Words.{lastBlock, prfWords, firstWords, blockWords, fourDigests, fourBlocks, Holds};
 
 // The last block of a message of one whole block and the five words u.
 fn last_block(u: [u32; 5]) -> [u32; 16]
@@ -86,14 +89,148 @@ fn salted(s: [u32; 5], salt: &[u8], n: u32) -> [u32; 5]
     sha1::finish_words(v, 64 + q as u64, &b[..e])
 }
 
+// The first value for block n.
+fn first_words(inner: [u32; 5], outer: [u32; 5], salt: &[u8], n: u32) -> [u32; 5]
+    requires { ⌜ length (now salt) < 2 ^ 60 ⌝ }
+    ensures { λ r. ⌜ r ≡ firstWords inner outer (now (salt .entry)) n ⌝ }
+{
+    let h = salted(inner, salt, n);
+    sha1::compress_words(outer, last_block(h))
+}
+
 // Block n of the derived key, T_n.
 fn block(inner: [u32; 5], outer: [u32; 5], salt: &[u8], count: u32, n: u32) -> [u8; 20]
     requires { ⌜ (1 ≤ count) × (length (now salt) < 2 ^ 60) ⌝ }
     ensures { λ r. ⌜ r ≡ digest (blockWords inner outer (now (salt .entry)) count n) ⌝ }
 {
-    let h = salted(inner, salt, n);
-    let u = sha1::compress_words(outer, last_block(h));
+    let u = first_words(inner, outer, salt, n);
     sha1::store(iterate(inner, outer, u, count))
+}
+
+// last_block in each lane, in the first 16 words of w.
+fn last_blocks(w: &mut [[u32; 4]; 96], u: [[u32; 4]; 5])
+    requires { ⌜ length (now w) ≡ 96 ⌝ }
+    ensures { λ _. ⌜ (length (now (w .exit)) ≡ 96) × Each (λ i. take 16 (lane i (now (w .exit))) ≡ lastBlock (lane i u)) ⌝ }
+{
+    let one = [0x80000000u32; 4];
+    let zero = [0u32; 4];
+    let bits = [672u32; 4];
+    w[0] = u[0];
+    w[1] = u[1];
+    w[2] = u[2];
+    w[3] = u[3];
+    w[4] = u[4];
+    w[5] = one;
+    w[6] = zero;
+    w[7] = zero;
+    w[8] = zero;
+    w[9] = zero;
+    w[10] = zero;
+    w[11] = zero;
+    w[12] = zero;
+    w[13] = zero;
+    w[14] = zero;
+    w[15] = bits;
+}
+
+// prf_words in each lane, in the room w.
+fn prf_lanes(
+    w: &mut [[u32; 4]; 96],
+    inner: [[u32; 4]; 5],
+    outer: [[u32; 4]; 5],
+    u: [[u32; 4]; 5],
+) -> [[u32; 4]; 5]
+    requires { ⌜ length (now w) ≡ 96 ⌝ }
+    ensures { λ r. ⌜ (length (now (w .exit)) ≡ 96) × Each (λ i. lane i r ≡ prfWords (lane i inner) (lane i outer) (lane i u)) ⌝ }
+{
+    last_blocks(w, u);
+    let h = lanes::compress(w, inner);
+    last_blocks(w, h);
+    lanes::compress(w, outer)
+}
+
+// iterate in each lane.
+fn iterate_lanes(
+    inner: [u32; 5],
+    outer: [u32; 5],
+    first: [[u32; 4]; 5],
+    count: u32,
+) -> [[u32; 4]; 5]
+    requires { ⌜ 1 ≤ count ⌝ }
+    ensures { λ r. ⌜ Each (λ i. lane i r ≡ folded (prfWords inner outer) (lane i first) (count - 1)) ⌝ }
+{
+    let inners = lanes::broadcast(inner);
+    let outers = lanes::broadcast(outer);
+    let mut w = [[0u32; 4]; 96];
+    let mut u = first;
+    let mut t = first;
+    for j in 1..count {
+        let v = prf_lanes(&mut w, inners, outers, u);
+        let x = lanes::xor(t, v);
+        u = v;
+        t = x;
+    }
+    t
+}
+
+// The bytes of the four lanes, one after the other.
+fn store_lanes(t: [[u32; 4]; 5]) -> [u8; 80]
+    ensures { λ r. ⌜ r ≡ fourDigests (lane 0 t) (lane 1 t) (lane 2 t) (lane 3 t) ⌝ }
+{
+    let mut d = [0u8; 80];
+    for i in 0..4 {
+        let b = sha1::store(lanes::lane(t, i));
+        octets::copy_into(&mut d, 20 * i, &b);
+    }
+    d
+}
+
+// Blocks n to n + 3 of the derived key.
+fn four_blocks(inner: [u32; 5], outer: [u32; 5], salt: &[u8], count: u32, n: u32) -> [u8; 80]
+    requires { ⌜ (1 ≤ count) × (length (now salt) < 2 ^ 60) × (n + 3 < 2 ^ 32) ⌝ }
+    ensures { λ r. ⌜ r ≡ fourBlocks inner outer (now (salt .entry)) count n ⌝ }
+{
+    let a = first_words(inner, outer, salt, n);
+    let b = first_words(inner, outer, salt, n + 1);
+    let c = first_words(inner, outer, salt, n + 2);
+    let d = first_words(inner, outer, salt, n + 3);
+    store_lanes(iterate_lanes(inner, outer, lanes::gather(a, b, c, d), count))
+}
+
+// The first blocks of the derived key, groups times four of them, into out, cropped where it ends.
+fn put_fours(
+    out: &mut [u8],
+    inner: [u32; 5],
+    outer: [u32; 5],
+    salt: &[u8],
+    count: u32,
+    groups: usize,
+)
+    requires { ⌜ (1 ≤ count) × (length (now salt) < 2 ^ 60) × (length (now out) ≤ 20 * (2 ^ 32 - 1)) × (4 * groups ≤ pieceCount 20 (length (now out))) ⌝ }
+    ensures { λ _. ⌜ Holds inner outer (now (salt .entry)) count (4 * groups) (now (out .exit)) ⌝ }
+{
+    let n = out.len();
+    for g in 0..groups {
+        let at = 80 * g;
+        let t = four_blocks(inner, outer, salt, count, (4 * g + 1) as u32);
+        let e = octets::least(80, n - at);
+        octets::copy_into(out, at, &t[..e]);
+    }
+}
+
+// The blocks that are left, one by one, where the first done stand in out.
+fn put_rest(out: &mut [u8], inner: [u32; 5], outer: [u32; 5], salt: &[u8], count: u32, done: usize)
+    requires { ⌜ (1 ≤ count) × (length (now salt) < 2 ^ 60) × (length (now out) ≤ 20 * (2 ^ 32 - 1)) × (done ≤ pieceCount 20 (length (now out))) × Holds inner outer (now salt) count done (now out) ⌝ }
+    ensures { λ _. ⌜ Holds inner outer (now (salt .entry)) count (pieceCount 20 (length (now (out .entry)))) (now (out .exit)) ⌝ }
+{
+    let n = out.len();
+    let blocks = (n + 19) / 20;
+    for j in done..blocks {
+        let at = 20 * j;
+        let t = block(inner, outer, salt, count, (j + 1) as u32);
+        let e = octets::least(20, n - at);
+        octets::copy_into(out, at, &t[..e]);
+    }
 }
 
 // The derived key, as long as out.
@@ -104,12 +241,7 @@ pub fn pbkdf2_sha1(out: &mut [u8], password: &[u8], salt: &[u8], count: u32)
     let key = hmac::prepare(password);
     let inner = key.inner;
     let outer = key.outer;
-    let n = out.len();
-    let blocks = (n + 19) / 20;
-    for j in 0..blocks {
-        let at = 20 * j;
-        let t = block(inner, outer, salt, count, (j + 1) as u32);
-        let e = octets::least(20, n - at);
-        octets::copy_into(out, at, &t[..e]);
-    }
+    let groups = (out.len() + 19) / 20 / 4;
+    put_fours(out, inner, outer, salt, count, groups);
+    put_rest(out, inner, outer, salt, count, 4 * groups);
 }

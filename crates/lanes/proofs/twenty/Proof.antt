@@ -1,0 +1,191 @@
+-- `lanes::twenty` meets its contract. In each lane the array and the working words are what j turns make of them.
+use mathlib.Core.Path.{_≡_, refl, sym, ap, _∙_}
+use mathlib.Core.List.{List, []}
+use Prim.Native.Nat.{ℕ, _+_, _-_, _*_, _/_, _≤_, _<_}
+use native.Mathlib.Nat.{add-zero}
+use native.Mathlib.Omega.{arith}
+use borrow.Author.Needs.{needs}
+use lib.ListN.{length, getD, set, length-set}
+use Rattle.sha1.specs.Turns.{turns}
+use Rattle.lanes.specs.Lanes.{Each, lane, taps, joined}
+use Rattle.lanes.proofs.LanesLaws.{turn-lane, halved, halved-lane, joined-lane}
+use Rattle.lanes.proofs.twenty.Statement.{statement}
+use Rattle.lanes.proofs.twenty.Tie as tie
+
+abbrev Inv-loop : tie.InvT-loop
+Inv-loop w₀ q c v₀ y₀ j₀ w v y j =
+    (j ≤ 20) × (length w ≡ length w₀) × (length v ≡ 6) × Each (λ i. (lane i w, joined (lane i v)) ≡ turns (lane i w₀, joined (lane i v₀)) (20 * q) j)
+    × Each (λ i. getD y i 0 ≡ taps (lane i w) (16 + (20 * q + j)))
+
+abbrev μ-loop : tie.MeasureT-loop
+μ-loop w₀ q c v₀ y₀ j₀ w v y j = 20 - j
+
+round-constant-requires : tie.Need-round-constant-requires Inv-loop μ-loop
+round-constant-requires c κs = search needs
+
+array-copy-out-t16 : tie.Need-array-copy-out-t16 Inv-loop μ-loop
+array-copy-out-t16 c = search needs
+
+array-copy-out-t19 : tie.Need-array-copy-out-t19 Inv-loop μ-loop
+array-copy-out-t19 c = search needs
+
+array-copy-out-t22 : tie.Need-array-copy-out-t22 Inv-loop μ-loop
+array-copy-out-t22 c = search needs
+
+array-copy-out-or-word : tie.Need-array-copy-out-or-word Inv-loop μ-loop
+array-copy-out-or-word c = search needs
+
+array-copy-out-or-word-2 : tie.Need-array-copy-out-or-word-2 Inv-loop μ-loop
+array-copy-out-or-word-2 c = search needs
+
+mul-taps-at : tie.Need-mul-taps-at Inv-loop μ-loop
+mul-taps-at c = search needs
+
+taps-at-requires : tie.Need-taps-at-requires Inv-loop μ-loop
+taps-at-requires c κs = search needs
+
+loop-holds : tie.Need-loop-holds Inv-loop μ-loop
+unfolding turns
+loop-holds c =
+    let a = c .before .before .before .before .before .before .before .before .args in (
+      omega arith,
+      refl,
+      refl,
+      λ i h. refl,
+      λ i h. c .taps-at .ensures i h ∙ ap (λ (n : ℕ). taps (lane i (a .w .now)) (16 + n)) (sym (add-zero (20 * a .q))),
+    )
+
+mul-t : tie.Need-mul-t Inv-loop μ-loop
+mul-t c = search needs
+
+add-t : tie.Need-add-t Inv-loop μ-loop
+add-t c = search needs
+
+mul-x : tie.Need-mul-x Inv-loop μ-loop
+mul-x c = search needs
+
+element-copy-out-x : tie.Need-element-copy-out-x Inv-loop μ-loop
+element-copy-out-x c = search needs
+
+rotl1-requires : tie.Need-rotl1-requires Inv-loop μ-loop
+rotl1-requires c κs = search needs
+
+add-t32 : tie.Need-add-t32 Inv-loop μ-loop
+add-t32 c = search needs
+
+mul-t36 : tie.Need-mul-t36 Inv-loop μ-loop
+mul-t36 c = search needs
+
+element-set-from-w : tie.Need-element-set-from-w Inv-loop μ-loop
+element-set-from-w c = search needs
+
+add-taps-at : tie.Need-add-taps-at Inv-loop μ-loop
+add-taps-at c = search needs
+
+taps-at-requires-2 : tie.Need-taps-at-requires-2 Inv-loop μ-loop
+taps-at-requires-2 c κs = search needs
+
+step-requires : tie.Need-step-requires Inv-loop μ-loop
+step-requires c κs = search needs
+
+add-j : tie.Need-add-j Inv-loop μ-loop
+add-j c = search needs
+
+loop-less : tie.Need-loop-less Inv-loop μ-loop
+loop-less c = search needs
+
+loop-again : tie.Need-loop-again Inv-loop μ-loop
+loop-again c =
+    let at = c .before .before .before .before .before .before in
+    let l = at .loop in
+    let k = at .before .before .before .before .before .before .before .before .round-constant in
+    let a = at .before .before .before .before .before .before .before .before .before .args in
+    let g = c .before .before .before .rotl1 in
+    let n = c .before .taps-at2 in
+    let t : ℕ = 20 * a .q in
+    let e : (t + l .j) / 20 ≡ a .q = omega arith in
+    let m : t + l .j + 1 ≡ t + (l .j + 1) = omega arith in
+    let v₀ = halved (a .t2) in
+    let w = set (l .w) (t + l .j + 16) (g .result) in (
+      omega arith,
+      simp length-set (l .inv .1),
+      search needs,
+      λ i h.
+          turn-lane i (lane i (a .w .now), joined (lane i v₀)) (l .w) (joined (lane i (l .v))) (joined (lane i (c .step .result))) (g .result) (l .y)
+          (getD (l .w) (t + l .j) []) t (l .j) (a .q) (k .result) (l .inv .3 i h) e (l .inv .4 i h) (g .ensures i h) refl (k .ensures) (c .step .ensures i h),
+      λ i h. n .ensures i h ∙ ap (λ (x : ℕ). taps (lane i w) (16 + x)) m,
+    )
+
+array-copy-out-t16-2 : tie.Need-array-copy-out-t16-2 Inv-loop μ-loop
+array-copy-out-t16-2 c = search needs
+
+array-copy-out-t19-2 : tie.Need-array-copy-out-t19-2 Inv-loop μ-loop
+array-copy-out-t19-2 c = search needs
+
+array-copy-out-or-word-3 : tie.Need-array-copy-out-or-word-3 Inv-loop μ-loop
+array-copy-out-or-word-3 c = search needs
+
+array-copy-out-or-word-4 : tie.Need-array-copy-out-or-word-4 Inv-loop μ-loop
+array-copy-out-or-word-4 c = search needs
+
+or-word-requires : tie.Need-or-word-requires Inv-loop μ-loop
+or-word-requires c κs = search needs
+
+array-copy-out-t51 : tie.Need-array-copy-out-t51 Inv-loop μ-loop
+array-copy-out-t51 c = search needs
+
+array-copy-out-t54 : tie.Need-array-copy-out-t54 Inv-loop μ-loop
+array-copy-out-t54 c = search needs
+
+returns : tie.Need-returns Inv-loop μ-loop
+returns c =
+    let b = c .before .before .or-word in
+    let at = c .before .before .before .before .before .before .before .before in
+    let l = at .loop in
+    let a = at .before .before .before .before .before .before .before .before .before .args in
+    let ls : length (a .t2) ≡ 5 = search needs in
+    let e : l .j ≡ 20 = omega arith in
+    let r : (i : ℕ) → i < 4 → (lane i (l .w), joined (lane i (l .v))) ≡ turns (lane i (a .w .now), joined (lane i (halved (a .t2)))) (20 * a .q) 20 = λ i h. rw e at (l .inv .3 i h) in (
+      l .inv .1,
+      λ i h.
+          ap (λ (x : List ℕ). (lane i (l .w), x)) (joined-lane i (l .v) (b .result) (b .ensures i h)) ∙ r i h
+          ∙ ap (λ (x : List ℕ). turns (lane i (a .w .now), x) (20 * a .q) 20) (halved-lane i (a .t2) h ls),
+    )
+
+pub twenty-spec : {M : Type 1} → statement M
+twenty-spec =
+    tie.close
+    (tie.spec
+    Inv-loop
+    μ-loop
+    round-constant-requires
+    array-copy-out-t16
+    array-copy-out-t19
+    array-copy-out-t22
+    array-copy-out-or-word
+    array-copy-out-or-word-2
+    mul-taps-at
+    taps-at-requires
+    loop-holds
+    mul-t
+    add-t
+    mul-x
+    element-copy-out-x
+    rotl1-requires
+    add-t32
+    mul-t36
+    element-set-from-w
+    add-taps-at
+    taps-at-requires-2
+    step-requires
+    add-j
+    loop-less
+    loop-again
+    array-copy-out-t16-2
+    array-copy-out-t19-2
+    array-copy-out-or-word-3
+    array-copy-out-or-word-4
+    or-word-requires
+    array-copy-out-t51
+    array-copy-out-t54
+    returns)

@@ -1,0 +1,83 @@
+-- Four blocks side by side: the last block of a message in each lane, the bytes of the lanes, and their place in the derived key.
+use mathlib.Core.Path.{_≡_, refl, sym, ap, ap₂, _∙_}
+use mathlib.Core.List.{List, [], _∷_, _++_, append-assoc}
+use Prim.Native.Nat.{ℕ, zero, suc, _+_, _*_, _≤_, _<_}
+use native.Mathlib.Numerals.{add-one}
+use native.Mathlib.Omega.{arith}
+use lib.ListN.{length, getD, take}
+use lib.Seq.{sets, sets-eq, take-all}
+use Rattle.octets.specs.Splice.{splice}
+use Rattle.octets.specs.Pieces.{pieceCount}
+use Rattle.octets.proofs.SpliceLaws.{take-splice}
+use Rattle.sha1.specs.Sha1.{digest, sha1}
+use Rattle.sha1.proofs.Sha1Laws.{lawful}
+use Rattle.hmac.specs.Keyed.{keyed}
+use Rattle.lanes.specs.Lanes.{lane}
+use Rattle.lanes.proofs.LanesLaws.{four, lane-four, lane-at}
+use Rattle.pbkdf2.specs.Pbkdf2.{Ts, pbkdf2}
+use Rattle.pbkdf2.specs.Words.{lastBlock, blockWords, fourDigests, fourBlocks, firstBlocks, Holds}
+use Rattle.pbkdf2.proofs.Pbkdf2Laws.{Ts-end}
+use Rattle.pbkdf2.proofs.WordsLaws.{F-blockWords}
+
+-- ---- the last block
+
+-- the words that are stored
+abbrev pub lastWords : List (List ℕ) → List (List ℕ)
+lastWords u =
+    getD u 0 [] ∷ getD u 1 [] ∷ getD u 2 [] ∷ getD u 3 [] ∷ getD u 4 [] ∷ four 0x80000000
+    ∷ four 0 ∷ four 0 ∷ four 0 ∷ four 0 ∷ four 0 ∷ four 0 ∷ four 0 ∷ four 0 ∷ four 0 ∷ four 672 ∷ []
+
+pub last-lane : (i : ℕ) (w u : List (List ℕ)) → i < 4 → length w ≡ 96 → take 16 (lane i (sets w 0 (lastWords u))) ≡ lastBlock (lane i u)
+last-lane i w u h l =
+    ap (λ (x : List (List ℕ)). take 16 (lane i x)) (sets-eq (lastWords u) w 0 (omega arith))
+    ∙ rw (lane-at u i 0, lane-at u i 1, lane-at u i 2, lane-at u i 3, lane-at u i 4, lane-four 0x80000000 i h, lane-four 0 i h, lane-four 672 i h)
+
+-- ---- the bytes of the lanes
+
+-- those of the first n
+unfoldable pub laneDigests : List (List ℕ) → ℕ → List ℕ
+laneDigests t zero = []
+laneDigests t (suc n) = laneDigests t n ++ digest (lane n t)
+
+pub digests-more : (t : List (List ℕ)) (d d′ b : List ℕ) (i : ℕ) → length b ≡ 20 → 20 * i + 20 ≤ length d → take (20 * i) d ≡ laneDigests t i
+    → b ≡ digest (lane i t) → d′ ≡ splice d (20 * i) b → take (20 * (i + 1)) d′ ≡ laneDigests t (i + 1)
+unfolding laneDigests
+digests-more t d d′ b i lb h e eb ed =
+    let n : 20 * (i + 1) ≡ 20 * i + length b = omega arith in
+    ap₂ take n ed ∙ take-splice d (20 * i) b (omega arith) ∙ ap₂ _++_ e eb ∙ ap (laneDigests t) (sym (add-one i))
+
+pub digests-end : (t : List (List ℕ)) (d : List ℕ) → length d ≡ 80 → take 80 d ≡ laneDigests t 4
+    → d ≡ fourDigests (lane 0 t) (lane 1 t) (lane 2 t) (lane 3 t)
+unfolding laneDigests
+digests-end t d l e = sym (take-all 80 d (omega arith)) ∙ e ∙ simp append-assoc
+
+-- ---- blocks of the derived key
+
+module _ (i o s : List ℕ) (c j : ℕ) (t : List ℕ) where
+  abbrev bytes : ℕ → List ℕ
+  bytes n = digest (blockWords i o s c n)
+
+  pub one-more : t ≡ digest (blockWords i o s c (j + 1)) → firstBlocks i o s c (j + 1) ≡ firstBlocks i o s c j ++ t
+  unfolding firstBlocks
+  one-more e =
+      ap (firstBlocks i o s c) (add-one j) ∙ ap (λ (x : List ℕ). firstBlocks i o s c j ++ x) (ap bytes (sym (add-one j)) ∙ sym e)
+
+  pub four-more : t ≡ fourBlocks i o s c (j + 1) → firstBlocks i o s c (j + 4) ≡ firstBlocks i o s c j ++ t
+  unfolding firstBlocks
+  four-more e =
+      let n₁ : j + 1 ≡ suc j = omega arith in
+      let n₂ : j + 1 + 1 ≡ suc (suc j) = omega arith in
+      let n₃ : j + 1 + 2 ≡ suc (suc (suc j)) = omega arith in
+      let n₄ : j + 1 + 3 ≡ suc (suc (suc (suc j))) = omega arith in
+      let n : j + 4 ≡ suc (suc (suc (suc j))) = omega arith in
+      rw (n, e, n₄, n₃, n₂, n₁) (simp append-assoc)
+
+-- under the password p they are those of RFC 8018, and all that out has room for are the derived key
+module _ (p s i o : List ℕ) (c : ℕ) (ei : i ≡ keyed 0x36 p) (eo : o ≡ keyed 0x5c p) where
+  firstBlocks-Ts : (n : ℕ) → firstBlocks i o s c n ≡ Ts sha1 p s c n
+  unfolding firstBlocks Ts
+  firstBlocks-Ts zero = refl
+  firstBlocks-Ts (suc n) = ap₂ _++_ (firstBlocks-Ts n) (F-blockWords p s i o _ c (suc n) ei eo refl)
+
+  pub all-blocks : (out : List ℕ) (j : ℕ) → j ≡ pieceCount 20 (length out) → Holds i o s c j out → out ≡ pbkdf2 sha1 p s c (length out)
+  all-blocks out j ej b = Ts-end sha1 lawful p s c out j (length out) refl ej (b ∙ ap (take (length out)) (firstBlocks-Ts j))

@@ -24,13 +24,15 @@ const RUNS: usize = 20;
 const LARGE: u32 = 40_000;
 const SMALL: u32 = 1_000;
 
-fn pbkdf2() -> Outcome {
-    println!("PBKDF2-HMAC-SHA-1, million HMAC values a second (two compressions each):");
-    let (large, small) = (Drive::new(512, LARGE, 0)?, Drive::new(512, SMALL, 0)?);
-    let values = (LARGE - SMALL) as f64 * 4.0;
+/// A derived key takes a value of HMAC for each count and each block of 20 bytes.
+fn pbkdf2(bits: usize) -> Outcome {
+    let bytes = bits / 8;
+    println!("PBKDF2-HMAC-SHA-1, key of {bytes} bytes, million HMAC values a second (two compressions each):");
+    let (large, small) = (Drive::new(bits, LARGE, 0)?, Drive::new(bits, SMALL, 0)?);
+    let values = (LARGE - SMALL) as f64 * bytes.div_ceil(20) as f64;
     for without in [peers::NOTHING, peers::SHA_EXTENSIONS] {
-        let (ours, theirs) = by_turns(RUNS, &mut || large.open(), &mut || peers::kdf(without, LARGE, 4))?;
-        let (less, start) = by_turns(RUNS, &mut || small.open(), &mut || peers::kdf(without, SMALL, 4))?;
+        let (ours, theirs) = by_turns(RUNS, &mut || large.open(), &mut || peers::kdf(without, LARGE, bytes))?;
+        let (less, start) = by_turns(SHORT, &mut || small.open(), &mut || peers::kdf(without, SMALL, bytes))?;
         let (ours, theirs) = (values / (ours - less) / 1e6, values / (theirs - start) / 1e6);
         println!("  ours {ours:6.2}   OpenSSL {theirs:6.2}   ratio {:5.2}   OpenSSL {}", ours / theirs, without.name);
     }
@@ -183,7 +185,8 @@ fn run() -> Outcome {
     println!("processor{name}");
     println!("{}", peers::run(Command::new("openssl").arg("version"))?.trim());
     println!("{}", peers::run(Command::new("cryptsetup").arg("--version"))?.trim());
-    pbkdf2()?;
+    pbkdf2(256)?;
+    pbkdf2(512)?;
     payload(256)?;
     payload(512)?;
     slots()?;

@@ -37,9 +37,9 @@ pub fn run(command: &mut Command) -> Result<String, String> {
     Ok(String::from_utf8_lossy(&out.stdout).into_owned())
 }
 
-/// One PBKDF2-HMAC-SHA1 derivation of `blocks` blocks by `openssl kdf`.
-pub fn kdf(without: Without, count: u32, blocks: usize) -> Result<(), String> {
-    let (length, count) = ((20 * blocks).to_string(), format!("iter:{count}"));
+/// One PBKDF2-HMAC-SHA1 derivation of a key of `bytes` bytes by `openssl kdf`.
+pub fn kdf(without: Without, count: u32, bytes: usize) -> Result<(), String> {
+    let (length, count) = (bytes.to_string(), format!("iter:{count}"));
     let named = ["-kdfopt", "digest:SHA1", "-kdfopt", "pass:passphrase", "-kdfopt", "salt:saltsaltsaltsalt"];
     let mut command = openssl(without);
     command.args(["kdf", "-keylen", &length]).args(named).args(["-kdfopt", &count, "PBKDF2"]);

@@ -218,7 +218,7 @@ pub fn write(image: &mut [u8], key: &[u8], first: u64, units: u64, buffer: &[u8]
 }
 
 /// A bound on the stack of a call. Measured by `tests/stack.rs` at 4,000 stripes and a key of 64 bytes, in bytes: format
-/// 2,403, add 3,587, open by number 4,083, open 4,179, change 4,291, revoke 682, read 3,171, write 3,187 (optimised build).
+/// 4,947, add 6,131, open by number 6,627, open 6,723, change 6,835, revoke 682, read 5,715, write 5,731 (optimised build).
 pub const MOST_STACK: usize = 8 * 1024;
 
 /// How many bytes of stack are wiped after each call.

@@ -1,16 +1,20 @@
 -- Laws of words in four lanes: what a function does to its arrays is, in lane i, what SHA-1 does to lane i.
 use mathlib.Core.Path.{_≡_, refl, sym, ap, ap₂, _∙_}
-use mathlib.Core.List.{List, [], _∷_}
-use Prim.Native.Nat.{ℕ, zero, suc, _+_, _-_, _*_, _/_, _%_, _^_, _<_}
+use mathlib.Core.List.{List, [], _∷_, _++_, append-assoc}
+use Prim.Native.Nat.{ℕ, zero, suc, _+_, _-_, _*_, _/_, _%_, _^_, _≤_, _<_}
 use native.Mathlib.Nat.{add-comm, mod-add-mod}
+use native.Mathlib.Numerals.{add-one}
 use native.Mathlib.Omega.{arith}
 use lib.Bits.{bitOr, bitXor, or-shifted, or-zero-r}
 use lib.ListN.{length, getD, take, set, length-map, List·getD-map}
+use lib.Seq.{take-all}
 use Rattle.octets.specs.Octets.{xors, _⊕_}
-use Rattle.sha1.specs.Sha1.{_⊞_, rotl, f, k, next, schedule, mix, rounds, addWords, compressWords}
+use Rattle.octets.specs.Splice.{splice}
+use Rattle.octets.proofs.SpliceLaws.{take-splice}
+use Rattle.sha1.specs.Sha1.{_⊞_, rotl, f, k, next, schedule, mix, rounds, addWords, compressWords, digest}
 use Rattle.sha1.specs.Turns.{grow, turns}
 use Rattle.sha1.proofs.RoundLaws.{turn-more, four-twenties, turns-rounds}
-use Rattle.lanes.specs.Lanes.{Each, lane, taps, joined, roundOf}
+use Rattle.lanes.specs.Lanes.{Each, lane, fourDigests, taps, joined, roundOf}
 
 -- what holds in lanes 0, 1, 2 and 3 holds in each
 pub each : (P : ℕ → Type 0) → P 0 → P 1 → P 2 → P 3 → Each P
@@ -151,3 +155,22 @@ pub added-lane : (i : ℕ) (s v : List (List ℕ)) (a b c d e m : List ℕ)
 unfolding compressWords addWords
 added-lane i s v a b c d e m ea eb ec ed ee ev =
     rw (← ev, lane-at s i 0, lane-at s i 1, lane-at s i 2, lane-at s i 3, lane-at s i 4, lane-at v i 0, lane-at v i 1, lane-at v i 2, lane-at v i 3, lane-at v i 4, ea, eb, ec, ed, ee)
+
+-- ---- the bytes of the lanes
+
+-- those of the first n
+unfoldable pub laneDigests : List (List ℕ) → ℕ → List ℕ
+laneDigests t zero = []
+laneDigests t (suc n) = laneDigests t n ++ digest (lane n t)
+
+pub digests-more : (t : List (List ℕ)) (d d′ b : List ℕ) (i : ℕ) → length b ≡ 20 → 20 * i + 20 ≤ length d → take (20 * i) d ≡ laneDigests t i
+    → b ≡ digest (lane i t) → d′ ≡ splice d (20 * i) b → take (20 * (i + 1)) d′ ≡ laneDigests t (i + 1)
+unfolding laneDigests
+digests-more t d d′ b i lb h e eb ed =
+    let n : 20 * (i + 1) ≡ 20 * i + length b = omega arith in
+    ap₂ take n ed ∙ take-splice d (20 * i) b (omega arith) ∙ ap₂ _++_ e eb ∙ ap (laneDigests t) (sym (add-one i))
+
+pub digests-end : (t : List (List ℕ)) (d : List ℕ) → length d ≡ 80 → take 80 d ≡ laneDigests t 4
+    → d ≡ fourDigests (lane 0 t) (lane 1 t) (lane 2 t) (lane 3 t)
+unfolding laneDigests
+digests-end t d l e = sym (take-all 80 d (omega arith)) ∙ e ∙ simp append-assoc

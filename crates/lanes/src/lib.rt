@@ -10,7 +10,7 @@ ghost use lib.ListN.{length, getD, take};
 ghost use Rattle.octets.specs.Octets.{xors};
 ghost use Rattle.sha1.specs.Sha1.{_⊞_, rotl, ch, parity, maj, f, schedule, rounds, compressWords};
 ghost use Rattle.sha1.specs.Turns.{turns};
-ghost use Rattle.lanes.specs.Lanes.{Each, lane, taps, joined, roundOf};
+ghost use Rattle.lanes.specs.Lanes.{Each, lane, fourDigests, taps, joined, roundOf};
 
 // Five words for each lane, side by side.
 pub fn gather(a: [u32; 5], b: [u32; 5], c: [u32; 5], d: [u32; 5]) -> [[u32; 4]; 5]
@@ -38,6 +38,18 @@ pub fn lane(s: [[u32; 4]; 5], i: usize) -> [u32; 5]
     ensures { λ r. ⌜ r ≡ lane i s ⌝ }
 {
     [s[0][i], s[1][i], s[2][i], s[3][i], s[4][i]]
+}
+
+// The bytes of the four lanes, one after the other.
+pub fn store(s: [[u32; 4]; 5]) -> [u8; 80]
+    ensures { λ r. ⌜ r ≡ fourDigests (lane 0 s) (lane 1 s) (lane 2 s) (lane 3 s) ⌝ }
+{
+    let mut d = [0u8; 80];
+    for i in 0..4 {
+        let b = sha1::store(lane(s, i));
+        octets::copy_into(&mut d, 20 * i, &b);
+    }
+    d
 }
 
 // The exclusive or of two words.

@@ -1,21 +1,19 @@
--- Four blocks side by side: the last block of a message in each lane, the bytes of the lanes, and their place in the derived key.
+-- Four blocks side by side: the last block of a message in each lane, and the place of blocks in the derived key.
 use mathlib.Core.Path.{_≡_, refl, sym, ap, ap₂, _∙_}
 use mathlib.Core.List.{List, [], _∷_, _++_, append-assoc}
-use Prim.Native.Nat.{ℕ, zero, suc, _+_, _*_, _≤_, _<_}
+use Prim.Native.Nat.{ℕ, zero, suc, _+_, _<_}
 use native.Mathlib.Numerals.{add-one}
 use native.Mathlib.Omega.{arith}
 use lib.ListN.{length, getD, take}
-use lib.Seq.{sets, sets-eq, take-all}
-use Rattle.octets.specs.Splice.{splice}
+use lib.Seq.{sets, sets-eq}
 use Rattle.octets.specs.Pieces.{pieceCount}
-use Rattle.octets.proofs.SpliceLaws.{take-splice}
 use Rattle.sha1.specs.Sha1.{digest, sha1}
 use Rattle.sha1.proofs.Sha1Laws.{lawful}
 use Rattle.hmac.specs.Keyed.{keyed}
 use Rattle.lanes.specs.Lanes.{lane}
 use Rattle.lanes.proofs.LanesLaws.{four, lane-four, lane-at}
 use Rattle.pbkdf2.specs.Pbkdf2.{Ts, pbkdf2}
-use Rattle.pbkdf2.specs.Words.{lastBlock, blockWords, fourDigests, fourBlocks, firstBlocks, Holds}
+use Rattle.pbkdf2.specs.Words.{lastBlock, blockWords, fourBlocks, firstBlocks, Holds}
 use Rattle.pbkdf2.proofs.Pbkdf2Laws.{Ts-end}
 use Rattle.pbkdf2.proofs.WordsLaws.{F-blockWords}
 
@@ -31,25 +29,6 @@ pub last-lane : (i : ℕ) (w u : List (List ℕ)) → i < 4 → length w ≡ 96 
 last-lane i w u h l =
     ap (λ (x : List (List ℕ)). take 16 (lane i x)) (sets-eq (lastWords u) w 0 (omega arith))
     ∙ rw (lane-at u i 0, lane-at u i 1, lane-at u i 2, lane-at u i 3, lane-at u i 4, lane-four 0x80000000 i h, lane-four 0 i h, lane-four 672 i h)
-
--- ---- the bytes of the lanes
-
--- those of the first n
-unfoldable pub laneDigests : List (List ℕ) → ℕ → List ℕ
-laneDigests t zero = []
-laneDigests t (suc n) = laneDigests t n ++ digest (lane n t)
-
-pub digests-more : (t : List (List ℕ)) (d d′ b : List ℕ) (i : ℕ) → length b ≡ 20 → 20 * i + 20 ≤ length d → take (20 * i) d ≡ laneDigests t i
-    → b ≡ digest (lane i t) → d′ ≡ splice d (20 * i) b → take (20 * (i + 1)) d′ ≡ laneDigests t (i + 1)
-unfolding laneDigests
-digests-more t d d′ b i lb h e eb ed =
-    let n : 20 * (i + 1) ≡ 20 * i + length b = omega arith in
-    ap₂ take n ed ∙ take-splice d (20 * i) b (omega arith) ∙ ap₂ _++_ e eb ∙ ap (laneDigests t) (sym (add-one i))
-
-pub digests-end : (t : List (List ℕ)) (d : List ℕ) → length d ≡ 80 → take 80 d ≡ laneDigests t 4
-    → d ≡ fourDigests (lane 0 t) (lane 1 t) (lane 2 t) (lane 3 t)
-unfolding laneDigests
-digests-end t d l e = sym (take-all 80 d (omega arith)) ∙ e ∙ simp append-assoc
 
 -- ---- blocks of the derived key
 

@@ -5,6 +5,7 @@ use Prim.Native.Nat.{ℕ, zero, suc, _+_, _-_, _*_}
 use lib.ListN.{length, getD, take}
 use Rattle.octets.specs.Octets.{bigEndian}
 use Rattle.sha1.specs.Sha1.{compressWords, finish, digest}
+use Rattle.lanes.specs.Lanes.{fourDigests}
 use Rattle.pbkdf2.specs.Pbkdf2.{folded}
 
 -- the last block of a message of one whole block and the five words u: the words, and the padding of 84 bytes
@@ -24,10 +25,6 @@ firstWords i o s n = compressWords o (lastBlock (finish i 64 (s ++ bigEndian 4 n
 -- T_n, as five words
 unfoldable pub blockWords : List ℕ → List ℕ → List ℕ → ℕ → ℕ → List ℕ
 blockWords i o s c n = folded (prfWords i o) (firstWords i o s n) (c - 1)
-
--- the bytes of four lists of words
-abbrev pub fourDigests : List ℕ → List ℕ → List ℕ → List ℕ → List ℕ
-fourDigests a b c d = digest a ++ (digest b ++ (digest c ++ digest d))
 
 -- T_n || .. || T_(n+3)
 abbrev pub fourBlocks : List ℕ → List ℕ → List ℕ → ℕ → ℕ → List ℕ

@@ -9,7 +9,7 @@ ghost use Rattle.octets.specs.Pieces.{pieceCount};
 ghost use Rattle.sha1.specs.Sha1.{finish, digest, sha1};
 ghost use Rattle.lanes.specs.Lanes.{Each, lane};
 ghost use Rattle.pbkdf2.specs.Pbkdf2.{folded, pbkdf2};
-ghost use Rattle.pbkdf2.specs.Words.{lastBlock, prfWords, firstWords, blockWords, fourDigests, fourBlocks, Holds};
+ghost use Rattle.pbkdf2.specs.Words.{lastBlock, prfWords, firstWords, blockWords, fourBlocks, Holds};
 
 // The last block of a message of one whole block and the five words u.
 fn last_block(u: [u32; 5]) -> [u32; 16]
@@ -173,18 +173,6 @@ fn iterate_lanes(
     t
 }
 
-// The bytes of the four lanes, one after the other.
-fn store_lanes(t: [[u32; 4]; 5]) -> [u8; 80]
-    ensures { λ r. ⌜ r ≡ fourDigests (lane 0 t) (lane 1 t) (lane 2 t) (lane 3 t) ⌝ }
-{
-    let mut d = [0u8; 80];
-    for i in 0..4 {
-        let b = sha1::store(lanes::lane(t, i));
-        octets::copy_into(&mut d, 20 * i, &b);
-    }
-    d
-}
-
 // Blocks n to n + 3 of the derived key.
 fn four_blocks(inner: [u32; 5], outer: [u32; 5], salt: &[u8], count: u32, n: u32) -> [u8; 80]
     requires { ⌜ (1 ≤ count) × (length (now salt) < 2 ^ 60) × (n + 3 < 2 ^ 32) ⌝ }
@@ -194,7 +182,7 @@ fn four_blocks(inner: [u32; 5], outer: [u32; 5], salt: &[u8], count: u32, n: u32
     let b = first_words(inner, outer, salt, n + 1);
     let c = first_words(inner, outer, salt, n + 2);
     let d = first_words(inner, outer, salt, n + 3);
-    store_lanes(iterate_lanes(inner, outer, lanes::gather(a, b, c, d), count))
+    lanes::store(iterate_lanes(inner, outer, lanes::gather(a, b, c, d), count))
 }
 
 // The first blocks of the derived key, groups times four of them, into out, cropped where it ends.

@@ -1,12 +1,15 @@
-// The splitter of LUKS 1 over SHA-1 (LUKS 1.2.2, section 2.4), stripe by stripe.
+// The splitter of LUKS 1 over SHA-1 (LUKS 1.2.2, section 2.4), stripe by stripe. The four pieces of a 64-byte block are hashed side by
+// side, those of other blocks one by one.
 ghost use mathlib.Core.Path.{_≡_};
 ghost use mathlib.Core.List.{_++_};
 ghost use Prim.Native.Nat.{_+_, _-_, _*_, _≤_, _<_, _^_};
-ghost use lib.ListN.{length};
+ghost use lib.ListN.{length, take};
 ghost use Rattle.octets.specs.Octets.{bigEndian, xors, zeros};
 ghost use Rattle.sha1.specs.Sha1.{hash, sha1};
 ghost use Rattle.suite.specs.Split.{running, split, mergeFrom, merge};
+ghost use Rattle.lanes.specs.Lanes.{Each, lane};
 ghost use Rattle.splitter.specs.Diffuse.{diffuse};
+ghost use Rattle.splitter.specs.Fours.{pieceBlock, across};
 
 // The digest of a piece's number and the piece.
 fn numbered_digest(piece: &[u8], number: u32) -> [u8; 20]
@@ -21,8 +24,8 @@ fn numbered_digest(piece: &[u8], number: u32) -> [u8; 20]
     sha1::sha1(&b[..e])
 }
 
-// H, in place.
-pub fn diffuse_in(d: &mut [u8])
+// H, in place, piece by piece.
+fn diffuse_pieces(d: &mut [u8])
     requires { ⌜ length (now d) < 2 ^ 32 ⌝ }
     ensures { λ _. ⌜ now (d .exit) ≡ diffuse sha1 (now (d .entry)) ⌝ }
 {
@@ -36,6 +39,68 @@ pub fn diffuse_in(d: &mut [u8])
         octets::copy_into(d, at, &h[..n]);
         at = e;
         i += 1;
+    }
+}
+
+// The words at index at of the first three pieces of d, and x for the last.
+fn across(d: &[u8], at: usize, x: u32) -> [u32; 4]
+    requires { ⌜ at + 44 ≤ length (now d) ⌝ }
+    ensures { λ r. ⌜ r ≡ across (now (d .entry)) at x ⌝ }
+{
+    let a = octets::be32_at(d, at);
+    let b = octets::be32_at(d, at + 20);
+    let c = octets::be32_at(d, at + 40);
+    [a, b, c, x]
+}
+
+// The blocks that are hashed for the four pieces of d, side by side in the first 16 words of w.
+fn load_pieces(w: &mut [[u32; 4]; 96], d: &[u8])
+    requires { ⌜ (length (now w) ≡ 96) × (length (now d) ≡ 64) ⌝ }
+    ensures { λ _. ⌜ (length (now (w .exit)) ≡ 96) × Each (λ i. take 16 (lane i (now (w .exit))) ≡ pieceBlock (now (d .entry)) i) ⌝ }
+{
+    let numbers = [0u32, 1, 2, 3];
+    let one = [0x80000000u32, 0x80000000, 0x80000000, 0];
+    let zero = [0u32; 4];
+    let bits = [192u32, 192, 192, 64];
+    let x = octets::be32_at(d, 60);
+    w[0] = numbers;
+    w[1] = across(d, 0, x);
+    w[2] = across(d, 4, 0x80000000);
+    w[3] = across(d, 8, 0);
+    w[4] = across(d, 12, 0);
+    w[5] = across(d, 16, 0);
+    w[6] = one;
+    w[7] = zero;
+    w[8] = zero;
+    w[9] = zero;
+    w[10] = zero;
+    w[11] = zero;
+    w[12] = zero;
+    w[13] = zero;
+    w[14] = zero;
+    w[15] = bits;
+}
+
+// H of a block of 64 bytes, in place: its four pieces side by side.
+fn diffuse_64(d: &mut [u8])
+    requires { ⌜ length (now d) ≡ 64 ⌝ }
+    ensures { λ _. ⌜ now (d .exit) ≡ diffuse sha1 (now (d .entry)) ⌝ }
+{
+    let mut w = [[0u32; 4]; 96];
+    load_pieces(&mut w, d);
+    let b = lanes::store(lanes::compress(&mut w, lanes::broadcast(sha1::start())));
+    octets::copy_into(d, 0, &b[..64]);
+}
+
+// H, in place.
+pub fn diffuse_in(d: &mut [u8])
+    requires { ⌜ length (now d) < 2 ^ 32 ⌝ }
+    ensures { λ _. ⌜ now (d .exit) ≡ diffuse sha1 (now (d .entry)) ⌝ }
+{
+    if d.len() == 64 {
+        diffuse_64(d);
+    } else {
+        diffuse_pieces(d);
     }
 }
 

@@ -1,4 +1,4 @@
--- `splitter::diffuse_in` meets its contract.
+-- `splitter::diffuse_pieces` meets its contract.
 use mathlib.Core.Path.{_≡_, refl, sym, ap, _∙_}
 use mathlib.Core.List.{_++_}
 use Prim.Native.Nat.{ℕ, _-_, _≤_, min}
@@ -10,8 +10,8 @@ use Rattle.octets.specs.Pieces.{inPieces}
 use Rattle.sha1.specs.Sha1.{sha1}
 use Rattle.splitter.specs.Diffuse.{pieceDigest, diffuse}
 use Rattle.splitter.proofs.DiffuseLaws.{diffuse-step, diffuse-end}
-use Rattle.splitter.proofs.diffuse_in.Statement.{statement}
-use Rattle.splitter.proofs.diffuse_in.Tie as tie
+use Rattle.splitter.proofs.diffuse_pieces.Statement.{statement}
+use Rattle.splitter.proofs.diffuse_pieces.Tie as tie
 
 abbrev Inv-loop : tie.InvT-loop
 Inv-loop s₀ len i₀ at₀ s i at = (at ≤ length s₀) × (i ≤ at) × (length s ≡ length s₀) × (take at s ++ inPieces 20 (pieceDigest sha1) i (drop at s) ≡ diffuse sha1 s₀)
@@ -89,8 +89,8 @@ returns c =
     let l = c .before .loop in
     diffuse-end sha1 (omega arith) (l .at) (l .i) (l .d) (diffuse sha1 (c .before .before .before .args .d .now)) (omega arith) (l .inv .3)
 
-pub diffuse-in-spec : {M : Type 1} → statement M
-diffuse-in-spec =
+pub diffuse-pieces-spec : {M : Type 1} → statement M
+diffuse-pieces-spec =
     tie.close
     (tie.spec
     Inv-loop

@@ -1,8 +1,7 @@
 -- `splitter::load_pieces` meets its contract.
-use mathlib.Core.Path.{_∙_}
 use borrow.Author.Needs.{needs}
-use lib.Seq.{length-sets}
-use Rattle.splitter.proofs.FoursLaws.{pieceRows, loaded}
+use lib.ListN.{length-set}
+use Rattle.splitter.proofs.FoursLaws.{loaded}
 use Rattle.splitter.proofs.load_pieces.Statement.{statement}
 use Rattle.splitter.proofs.load_pieces.Tie as tie
 
@@ -83,7 +82,7 @@ returns c =
     let a₄ = c .before .across4 in
     let a₅ = c .across5 in
     let x = c .before .before .before .before .before .be32-at in (
-      length-sets w 0 (pieceRows (a₁ .result) (a₂ .result) (a₃ .result) (a₄ .result) (a₅ .result)) ∙ at .pre .0,
+      simp length-set (at .pre .0),
       λ i h.
           loaded d (a₁ .result) (a₂ .result) (a₃ .result) (a₄ .result) (a₅ .result) w (x .result) i (at .pre .1) (at .pre .0) h
           (x .ensures) (a₁ .ensures) (a₂ .ensures) (a₃ .ensures) (a₄ .ensures) (a₅ .ensures),

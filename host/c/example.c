@@ -1,7 +1,8 @@
 /*
  * The life of a drive from C: made, given two passphrases, opened, written, read, changed and revoked, in memory. Every result
- * is checked, and some refusals too.
+ * is checked, and some refusals too. What is secret is wiped on every way out, and the stack after every call that had a key.
  */
+#define _DEFAULT_SOURCE
 #include <mivrozh.h>
 
 #include <stdio.h>
@@ -9,11 +10,40 @@
 #include <string.h>
 #include <sys/random.h>
 
-enum { KEY = 64, STRIPES = 4000, COUNT = 1000, UNITS = 8, PAYLOAD_START = 4037 };
+enum { KEY = 64, STRIPES = 4000, COUNT = 1000, UNITS = 8, PAYLOAD = UNITS * 512, PAYLOAD_START = 4037 };
 enum { IMAGE = (PAYLOAD_START + UNITS) * 512, RANDOM = (STRIPES - 1) * KEY, FILLER = STRIPES * KEY };
 
+/* For the show these stand in the program. In earnest a passphrase is read into memory that is wiped. */
 static const char FIRST[] = "the first passphrase", SECOND[] = "the second one", THIRD[] = "a third";
 static const char UUID[] = "6a2b1f0e-3c4d-4e5f-8a9b-0c1d2e3f4a5b";
+
+/* Every buffer has memory of its own, exactly as long as it must be, and is wiped on every way out. */
+static struct {
+    uint8_t *bytes;
+    size_t length;
+} buffers[8];
+static size_t made;
+static uint8_t *image, *key, *opened, *salt, *stripes, *filler, *plain, *back;
+
+static uint8_t *buffer(size_t length) {
+    uint8_t *bytes = calloc(length, 1);
+    if (!bytes) {
+        perror("calloc");
+        exit(1);
+    }
+    buffers[made].bytes = bytes;
+    buffers[made++].length = length;
+    return bytes;
+}
+
+/* Is called on every way out: by exit, and where main returns. */
+static void wipe(void) {
+    while (made > 0) {
+        made--;
+        explicit_bzero(buffers[made].bytes, buffers[made].length);
+        free(buffers[made].bytes);
+    }
+}
 
 /* Says what was done; ends the program where the result is another than expected. */
 static void expect(const char *what, unsigned result, unsigned expected) {
@@ -24,92 +54,121 @@ static void expect(const char *what, unsigned result, unsigned expected) {
     }
 }
 
-/* Random bytes of the operating system, in a buffer of their own. */
-static uint8_t *random_bytes(size_t length) {
-    uint8_t *bytes = malloc(length);
+/* Fills a buffer with random bytes of the operating system. */
+static void randomise(uint8_t *bytes, size_t length) {
     size_t done = 0;
-    while (bytes && done < length) {
+    while (done < length) {
         ssize_t got = getrandom(bytes + done, length - done, 0);
-        if (got < 0) exit(1);
+        if (got < 0) {
+            perror("getrandom");
+            exit(1);
+        }
         done += (size_t)got;
     }
-    if (!bytes) exit(1);
-    return bytes;
 }
 
 static const uint8_t *octets(const char *text) {
     return (const uint8_t *)text;
 }
 
-static unsigned add(uint8_t *image, uint8_t slot, const uint8_t *key, const char *passphrase) {
-    uint8_t *salt = random_bytes(32), *random = random_bytes(RANDOM);
-    unsigned result =
-        mivrozh_add(image, IMAGE, slot, key, KEY, octets(passphrase), strlen(passphrase), salt, COUNT, random, RANDOM);
-    free(salt);
-    free(random);
+/* Each of these makes a call, wipes the stack that it used, and what it was given that nobody needs any more. */
+
+static unsigned format(void) {
+    unsigned result;
+    randomise(key, KEY);
+    randomise(salt, 32);
+    result = mivrozh_format(image, IMAGE, 2, STRIPES, key, KEY, salt, COUNT, octets(UUID), 36);
+    mivrozh_wipe_stack();
     return result;
 }
 
-static unsigned change(uint8_t *image, uint8_t from, const char *old, uint8_t to, const char *new_one) {
-    uint8_t *salt = random_bytes(32), *random = random_bytes(RANDOM), *filler = random_bytes(FILLER);
-    unsigned result = mivrozh_change(image, IMAGE, from, octets(old), strlen(old), to, octets(new_one), strlen(new_one), salt,
-                                     COUNT, random, RANDOM, filler, FILLER);
-    free(salt);
-    free(random);
-    free(filler);
+static unsigned add(uint8_t slot, const char *passphrase) {
+    unsigned result;
+    randomise(salt, 32);
+    randomise(stripes, RANDOM);
+    result = mivrozh_add(image, IMAGE, slot, key, KEY, octets(passphrase), strlen(passphrase), salt, COUNT,
+                         stripes, RANDOM);
+    mivrozh_wipe_stack();
+    explicit_bzero(stripes, RANDOM);
     return result;
 }
 
-static unsigned revoke(uint8_t *image, uint8_t slot) {
-    uint8_t *filler = random_bytes(FILLER);
-    unsigned result = mivrozh_revoke(image, IMAGE, slot, filler, FILLER);
-    free(filler);
+static unsigned change(uint8_t from, const char *old, uint8_t to, const char *new_one) {
+    unsigned result;
+    randomise(salt, 32);
+    randomise(stripes, RANDOM);
+    randomise(filler, FILLER);
+    result = mivrozh_change(image, IMAGE, from, octets(old), strlen(old), to, octets(new_one), strlen(new_one), salt, COUNT,
+                            stripes, RANDOM, filler, FILLER);
+    mivrozh_wipe_stack();
+    explicit_bzero(stripes, RANDOM);
     return result;
+}
+
+static unsigned revoke(uint8_t slot) {
+    randomise(filler, FILLER);
+    return mivrozh_revoke(image, IMAGE, slot, filler, FILLER);
 }
 
 /* The slot that the passphrase opens, whose key must be the drive's; 0 where none does. */
-static unsigned slot_of(const uint8_t *image, const char *passphrase, const uint8_t *key) {
-    uint8_t opened[66];
-    unsigned result = mivrozh_open(image, IMAGE, octets(passphrase), strlen(passphrase), opened);
-    if (result == 0) expect("  its key is the drive's", memcmp(opened + 2, key, KEY) == 0 && opened[1] == KEY, 1);
-    return opened[0];
+static unsigned slot_of(const char *passphrase) {
+    unsigned slot, result = mivrozh_open(image, IMAGE, octets(passphrase), strlen(passphrase), opened);
+    mivrozh_wipe_stack();
+    if (result == 0) {
+        expect("  its key is the drive's", memcmp(opened + 2, key, KEY) == 0 && opened[1] == KEY, 1);
+    }
+    slot = opened[0];
+    explicit_bzero(opened, 66);
+    return slot;
 }
 
-static void check_payload(uint8_t *image, const uint8_t *key) {
-    uint8_t *plain = random_bytes(UNITS * 512), *back = calloc(UNITS, 512);
-    if (!back) exit(1);
-    expect("write 8 units", mivrozh_write(image, IMAGE, key, KEY, 0, UNITS, plain, UNITS * 512), 0);
-    expect("the image has other bytes than were written", memcmp(image + PAYLOAD_START * 512, plain, UNITS * 512) != 0, 1);
-    expect("read them", mivrozh_read(image, IMAGE, key, KEY, 0, UNITS, back, UNITS * 512), 0);
-    expect("they are the same", memcmp(plain, back, UNITS * 512) == 0, 1);
-    expect("read no unit at the end, with no buffer", mivrozh_read(image, IMAGE, key, KEY, UNITS, 0, NULL, 0), 0);
-    expect("read beyond the end: refused", mivrozh_read(image, IMAGE, key, KEY, 1, UNITS, back, UNITS * 512), 19);
-    free(plain);
-    free(back);
+static unsigned write_units(const uint8_t *with) {
+    unsigned result = mivrozh_write(image, IMAGE, with, KEY, 0, UNITS, plain, PAYLOAD);
+    mivrozh_wipe_stack();
+    return result;
+}
+
+static unsigned read_units(const uint8_t *with, uint64_t first, uint64_t units) {
+    unsigned result = mivrozh_read(image, IMAGE, with, KEY, first, units, units ? back : NULL, units * 512);
+    mivrozh_wipe_stack();
+    return result;
+}
+
+/* Writes and reads the payload under the key that slot 7 holds. */
+static void check_payload(void) {
+    unsigned result = mivrozh_open_slot(image, IMAGE, 7, octets(SECOND), strlen(SECOND), opened);
+    mivrozh_wipe_stack();
+    expect("open slot 7 by number", result, 0);
+    randomise(plain, PAYLOAD);
+    expect("write 8 units", write_units(opened + 2), 0);
+    expect("the image has other bytes than were written", memcmp(image + PAYLOAD_START * 512, plain, PAYLOAD) != 0, 1);
+    expect("read them", read_units(opened + 2, 0, UNITS), 0);
+    expect("they are the same", memcmp(plain, back, PAYLOAD) == 0, 1);
+    expect("read no unit at the end, with no buffer", read_units(opened + 2, UNITS, 0), 0);
+    expect("read beyond the end: refused", read_units(opened + 2, 1, UNITS), 19);
+    explicit_bzero(opened, 66);
+    explicit_bzero(plain, PAYLOAD);
+    explicit_bzero(back, PAYLOAD);
 }
 
 int main(void) {
-    uint8_t *image = calloc(IMAGE, 1), *key = random_bytes(KEY), *salt = random_bytes(32), opened[66];
-    if (!image) return 1;
-    expect("format", mivrozh_format(image, IMAGE, 2, STRIPES, key, KEY, salt, COUNT, octets(UUID), 36), 0);
-    expect("open with no passphrase there: refused", slot_of(image, FIRST, key), 0);
-    expect("add the first passphrase, slot 1", add(image, 1, key, FIRST), 0);
-    expect("add another to slot 1: refused", add(image, 1, key, SECOND), 15);
-    expect("revoke the only slot: refused", revoke(image, 1), 18);
-    expect("add the second passphrase, slot 7", add(image, 7, key, SECOND), 0);
-    expect("the second opens slot", slot_of(image, SECOND, key), 7);
-    expect("open slot 7 by number",
-           mivrozh_open_slot(image, IMAGE, 7, octets(SECOND), strlen(SECOND), opened), 0);
-    check_payload(image, opened + 2);
-    expect("change slot 7 to slot 2", change(image, 7, SECOND, 2, THIRD), 0);
-    expect("the second opens nothing", slot_of(image, SECOND, key), 0);
-    expect("the third opens slot", slot_of(image, THIRD, key), 2);
-    expect("revoke slot 1", revoke(image, 1), 0);
-    expect("the first opens nothing", slot_of(image, FIRST, key), 0);
-    expect("the third opens slot", slot_of(image, THIRD, key), 2);
-    free(image);
-    free(key);
-    free(salt);
+    if (atexit(wipe) != 0) return 1;
+    image = buffer(IMAGE), key = buffer(KEY), opened = buffer(66), salt = buffer(32);
+    stripes = buffer(RANDOM), filler = buffer(FILLER), plain = buffer(PAYLOAD), back = buffer(PAYLOAD);
+    expect("format", format(), 0);
+    expect("open with no passphrase there: refused", slot_of(FIRST), 0);
+    expect("add the first passphrase, slot 1", add(1, FIRST), 0);
+    expect("add another to slot 1: refused", add(1, SECOND), 15);
+    expect("revoke the only slot: refused", revoke(1), 18);
+    expect("add the second passphrase, slot 7", add(7, SECOND), 0);
+    expect("the second opens slot", slot_of(SECOND), 7);
+    check_payload();
+    expect("change slot 7 to slot 2", change(7, SECOND, 2, THIRD), 0);
+    expect("the second opens nothing", slot_of(SECOND), 0);
+    expect("the third opens slot", slot_of(THIRD), 2);
+    expect("revoke slot 1", revoke(1), 0);
+    expect("the first opens nothing", slot_of(FIRST), 0);
+    expect("the third opens slot", slot_of(THIRD), 2);
     puts("all as expected");
     return 0;
 }

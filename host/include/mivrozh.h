@@ -2,7 +2,8 @@
  * mivrozh.h: LUKS version 1 drives (cipher aes, mode xts-plain64, hash sha1, keys of 256 or 512 bits).
  *
  * Every call works on one image that the caller lends: the header, the eight key areas and the payload of a drive, from its
- * first byte. Link with libcapi.a. The library needs memcpy and memset, has no global state, allocates nothing and makes no
+ * first byte. Link with libmivrozh.a (`pkg-config --cflags --libs mivrozh` where it is installed; in the repository it is
+ * target/staticlib/libcapi.a). The library needs memcpy and memset, has no global state, allocates nothing and makes no
  * system call; the stack of a call stays below 8 KiB. Calls on different images may run at the same time.
  *
  * RESULT. 0: accepted. Else the number of the first check that failed, in the order each call lists; then image and buffers
@@ -12,10 +13,13 @@
  *   - A pointer with a length n points to n readable bytes (writable ones where it is not const). Where the length is 0 any
  *     pointer will do, also NULL. A salt is 32 bytes, an `opened` 66: these pointers are never NULL.
  *   - A buffer that is written overlaps no other argument.
+ *   - Nobody else changes what is lent while a call runs. The header is judged first and read again later, so memory that
+ *     another program can write, such as a mapping of a file, is copied before it is lent.
  *   - Master key, salts and random bytes come from a good source of randomness, such as getrandom(2), and no salt is used
  *     twice. Filler is better random too.
  *   - Keys, passphrases, random bytes and `opened` are wiped by their owner. A call leaves parts of keys in the stack below
- *     its caller; wipe that too (8 KiB) where it matters. The Rust binding does.
+ *     its caller: mivrozh_wipe_stack, at the end of this file, wipes that. What must not reach the swap or a core dump is
+ *     locked by its owner (mlock, MADV_DONTDUMP). The Rust binding does all of this.
  *   - A changed image is written back to the disk in an order that a loss of power survives: key area, then sector 1, then
  *     sector 0. Before a changed slot's old area is overwritten on the disk, the new slot is there whole and enabled.
  *
@@ -127,6 +131,29 @@ uint8_t mivrozh_read(const uint8_t *image, size_t image_len, const uint8_t *key,
  * Enciphers and writes payload units. Arguments, refusals and cost as for mivrozh_read.
  */
 uint8_t mivrozh_write(uint8_t *image, size_t image_len, const uint8_t *key, size_t key_len, uint64_t first, uint64_t units, const uint8_t *buffer, size_t buffer_len);
+
+/*
+ * Wipes the stack below its caller, as far as a call and the frames around it reach (16 KiB, which must be there). Call it
+ * right after a call that had a key or a passphrase, from the same function. It is no part of the library but is compiled
+ * with the program, by GCC or clang. It pushes zeros, so that no byte is left out and the end of the stack is not passed
+ * unseen.
+ * Registers are not cleared. The dynamic linker saves them to the stack where a function is called for the first time; link
+ * with -z now (gcc -Wl,-z,now), so that it has no need to.
+ */
+#if defined(__GNUC__) && defined(__x86_64__)
+static __attribute__((noinline, unused)) void mivrozh_wipe_stack(void) {
+    __asm__ volatile(
+        "movl $2048, %%ecx\n"
+        "1:\n\t"
+        "pushq $0\n\t"
+        "decl %%ecx\n\t"
+        "jnz 1b\n\t"
+        "addq $16384, %%rsp"
+        :
+        :
+        : "rcx", "cc", "memory");
+}
+#endif
 
 #ifdef __cplusplus
 }

@@ -9,6 +9,7 @@
 mod drive;
 mod peers;
 mod timing;
+mod transfer;
 
 use drive::Drive;
 use peers::Without;
@@ -191,7 +192,8 @@ fn run() -> Outcome {
     payload(512)?;
     slots()?;
     against_count()?;
-    against_units()
+    against_units()?;
+    transfer::transfers()
 }
 
 fn main() -> ExitCode {

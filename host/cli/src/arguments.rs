@@ -1,60 +1,73 @@
 //! The command line: which command, its options and the image.
 use crate::commands;
-use crate::failure::Failure;
+use crate::completions;
+use crate::failure::{shown, Failure};
 use crate::help;
+use crate::manual;
 use mivrozh::Refusal;
 use std::collections::HashMap;
 use std::ffi::{OsStr, OsString};
+use std::os::unix::ffi::OsStrExt;
 use std::path::{Path, PathBuf};
 
 /// A command: its options that take a value, those that take none, its help, and what it does.
 pub struct Command {
     pub name: &'static str,
-    values: &'static [&'static str],
+    values: &'static [&'static [&'static str]],
     flags: &'static [&'static str],
     help: &'static str,
     pub run: fn(&Given) -> Result<(), Failure>,
 }
 
+// The options for a passphrase that the drive has, or for its first one, and for a new one.
+const KEY_FILE: &[&str] = &["--key-file", "--key-file-offset", "--key-file-size"];
+const NEW_KEY_FILE: &[&str] = &["--new-key-file", "--new-key-file-offset", "--new-key-file-size"];
+const ITERATIONS: &[&str] = &["--iterations", "--iter-time"];
+
 const COMMANDS: [Command; 7] = [
     Command {
         name: "format",
-        values: &["--key-size", "--iterations", "--stripes", "--uuid", "--key-file"],
+        values: &[&["--key-size", "--checksum-iterations", "--stripes", "--uuid"], ITERATIONS, KEY_FILE],
         flags: &["--force"],
         help: help::FORMAT,
         run: commands::format,
     },
     Command {
         name: "add",
-        values: &["--slot", "--iterations", "--key-file", "--new-key-file"],
+        values: &[&["--slot"], ITERATIONS, KEY_FILE, NEW_KEY_FILE],
         flags: &[],
         help: help::ADD,
         run: commands::add,
     },
     Command {
         name: "change",
-        values: &["--slot", "--to", "--iterations", "--key-file", "--new-key-file"],
+        values: &[&["--slot", "--to"], ITERATIONS, KEY_FILE, NEW_KEY_FILE],
         flags: &[],
         help: help::CHANGE,
         run: commands::change,
     },
-    Command { name: "revoke", values: &["--slot"], flags: &[], help: help::REVOKE, run: commands::revoke },
-    Command { name: "test", values: &["--slot", "--key-file"], flags: &[], help: help::TEST, run: commands::test },
+    Command { name: "revoke", values: &[&["--slot"]], flags: &["--force"], help: help::REVOKE, run: commands::revoke },
+    Command { name: "test", values: &[&["--slot"], KEY_FILE], flags: &[], help: help::TEST, run: commands::test },
     Command {
         name: "read",
-        values: &["--first", "--units", "--out", "--slot", "--key-file"],
+        values: &[&["--first", "--units", "--out", "--slot"], KEY_FILE],
         flags: &["--force"],
         help: help::READ,
         run: commands::read,
     },
     Command {
         name: "write",
-        values: &["--first", "--in", "--slot", "--key-file"],
+        values: &[&["--first", "--in", "--slot"], KEY_FILE],
         flags: &[],
         help: help::WRITE,
         run: commands::write,
     },
 ];
+
+/// Every command, for the manual page and the completions.
+pub fn commands() -> &'static [Command] {
+    &COMMANDS
+}
 
 pub enum Request {
     /// A text to be printed.
@@ -76,30 +89,55 @@ pub fn parse(arguments: impl Iterator<Item = OsString>) -> Result<Request, Failu
         return Err(Failure::usage("a command is missing; 'mivrozh --help' lists them"));
     };
     match name.to_str() {
-        Some("--help" | "-h" | "help") => return Ok(Request::Show(help::TOOL.into())),
-        Some("--version") => return Ok(Request::Show(format!("mivrozh {}\n", env!("CARGO_PKG_VERSION")))),
+        Some("--help" | "-h" | "help") => return help_for(rest).map(Request::Show),
+        Some("--version" | "-V") => return Ok(Request::Show(format!("mivrozh {}\n", env!("CARGO_PKG_VERSION")))),
+        Some("manual") => return manual::shown(rest).map(Request::Show),
+        Some("completions") => return completions::shown(rest).map(Request::Show),
         _ => {}
     }
-    let Some(command) = COMMANDS.iter().find(|command| name == command.name) else {
-        let message = format!("there is no command '{}'; 'mivrozh --help' lists them", name.display());
-        return Err(Failure::usage(message));
-    };
+    let command = Command::named(name)?;
     if rest.iter().take_while(|word| *word != "--").any(|word| word == "--help" || word == "-h") {
         return Ok(Request::Show(command.help.into()));
     }
     command.parse(rest).map(Request::Run)
 }
 
+// The help of the tool, or of a command.
+fn help_for(words: &[OsString]) -> Result<String, Failure> {
+    match words {
+        [] => Ok(help::TOOL.into()),
+        [name] => Ok(Command::named(name)?.help.into()),
+        _ => Err(Failure::usage("help is given for one command at a time; see 'mivrozh --help'")),
+    }
+}
+
 impl Command {
+    fn named(name: &OsStr) -> Result<&'static Command, Failure> {
+        let command = COMMANDS.iter().find(|command| name == command.name);
+        command.ok_or_else(|| {
+            Failure::usage(format!("there is no command '{}'; 'mivrozh --help' lists them", shown(name)))
+        })
+    }
+
+    pub fn help(&self) -> &'static str {
+        self.help
+    }
+
+    /// The names of its options.
+    #[cfg(test)]
+    pub fn options(&self) -> impl Iterator<Item = &'static str> {
+        self.values.iter().copied().flatten().chain(self.flags).copied()
+    }
+
     fn parse(&'static self, words: &[OsString]) -> Result<Given, Failure> {
         let mut given = Given { command: self, values: HashMap::new(), flags: Vec::new(), image: PathBuf::new() };
         let mut images = Vec::new();
         let mut words = words.iter();
         while let Some(word) = words.next() {
-            match word.to_str() {
-                Some("--") => images.extend(words.by_ref()),
-                Some(option) if option.starts_with("--") => self.option(option, &mut words, &mut given)?,
-                Some(option) if option.starts_with('-') => return Err(self.unknown(option)),
+            match word.as_bytes() {
+                b"--" => images.extend(words.by_ref()),
+                option if option.starts_with(b"--") => self.option(option, &mut words, &mut given)?,
+                option if option.starts_with(b"-") => return Err(self.unknown(word)),
                 _ => images.push(word),
             }
         }
@@ -111,38 +149,36 @@ impl Command {
         Ok(given)
     }
 
-    // `--name value`, `--name=value`, or a flag.
+    // `--name value`, `--name=value`, or a flag. A value need not be text.
     fn option<'a>(
         &self,
-        option: &str,
+        option: &[u8],
         words: &mut impl Iterator<Item = &'a OsString>,
         given: &mut Given,
     ) -> Result<(), Failure> {
-        let (name, inline) = match option.split_once('=') {
-            Some((name, value)) => (name, Some(OsString::from(value))),
-            None => (option, None),
-        };
-        if let Some(flag) = self.flags.iter().find(|flag| **flag == name) {
+        let mut parts = option.splitn(2, |&byte| byte == b'=').map(OsStr::from_bytes);
+        let (name, inline) = (parts.next().unwrap_or_default(), parts.next());
+        if let Some(flag) = self.flags.iter().find(|flag| name == **flag) {
             if inline.is_some() {
-                return Err(self.usage(&format!("{name} takes no value")));
+                return Err(self.usage(&format!("{flag} takes no value")));
             }
             given.flags.push(flag);
             return Ok(());
         }
-        let Some(known) = self.values.iter().find(|known| **known == name) else {
+        let Some(known) = self.values.iter().copied().flatten().find(|known| name == **known) else {
             return Err(self.unknown(name));
         };
-        let Some(value) = inline.or_else(|| words.next().cloned()) else {
-            return Err(self.usage(&format!("{name} needs a value")));
+        let Some(value) = inline.or_else(|| words.next().map(OsString::as_os_str)) else {
+            return Err(self.usage(&format!("{known} needs a value")));
         };
-        match given.values.insert(known, value) {
+        match given.values.insert(known, value.into()) {
             None => Ok(()),
-            Some(_) => Err(self.usage(&format!("{name} was given twice"))),
+            Some(_) => Err(self.usage(&format!("{known} was given twice"))),
         }
     }
 
-    fn unknown(&self, option: &str) -> Failure {
-        self.usage(&format!("there is no option {option}"))
+    fn unknown(&self, option: &OsStr) -> Failure {
+        self.usage(&format!("there is no option {}", shown(option)))
     }
 
     pub fn usage(&self, what: &str) -> Failure {
@@ -171,7 +207,7 @@ impl Given {
         let Some(value) = self.value(name) else { return Ok(None) };
         match value.to_str().and_then(|text| text.parse().ok()) {
             Some(number) => Ok(Some(number)),
-            None => Err(self.command.usage(&format!("{name} needs a number, not '{}'", value.display()))),
+            None => Err(self.command.usage(&format!("{name} needs a number, not '{}'", shown(value)))),
         }
     }
 

@@ -1,78 +1,105 @@
 //! The seven commands. Each looks at the drive first, then asks for passphrases, then acts in memory, and writes last.
 use crate::arguments::Given;
-use crate::failure::{self, Failure};
+use crate::failure::{self, shown, Failure};
 use crate::image::{ImageFile, Purpose};
-use crate::passphrase;
+use crate::passphrase::{self, Source};
 use crate::random;
+use crate::rate;
+use crate::signatures;
 use crate::stages;
 use crate::transfer;
-use mivrozh::header::{Header, MAGIC, MOST_STRIPES, SECTOR};
+use mivrozh::header::{Header, MOST_STRIPES, SECTOR};
 use mivrozh::{FormatInput, Opened, Profile, Refusal, Secret, SlotInput};
+use std::time::Duration;
 
+// Where the user says nothing of a derivation's length.
 const ITERATIONS: u32 = 500_000;
 const FIRST_SLOT: u8 = 1;
 
 pub fn format(given: &Given) -> Result<(), Failure> {
+    let source = Source::of(given, "--key-file")?;
     let profile = match given.number("--key-size")? {
         Some(256) => Profile::Key256,
         None | Some(512) => Profile::Key512,
         Some(_) => return Err(given.command.usage("--key-size is 256 or 512")),
     };
     let stripes = given.number_u32("--stripes")?.unwrap_or(MOST_STRIPES);
-    let count = iterations(given)?;
+    let asked_for = given.number_u32("--checksum-iterations")?;
     let uuid = match given.value("--uuid") {
         Some(text) => text.to_string_lossy().into_owned(),
         None => random::uuid()?,
     };
     let key = random::bytes(profile.key_bytes())?;
     let mut image = ImageFile::open(given.image(), Purpose::Writing)?;
-    let older = image.bytes().starts_with(&MAGIC);
 
+    let count = iterations(given, profile.key_bytes())?;
     let salt = random::salt()?;
-    let input = FormatInput { profile, stripes, key: &key, salt: &salt, count, uuid: &uuid };
+    let checksum_count = asked_for.unwrap_or(rate::checksum_count(count));
+    let input = FormatInput::new(profile, &key, &salt, checksum_count, &uuid).stripes(stripes);
     image.drive().format(&input).map_err(Failure::refused)?;
-    if older && !given.has("--force") {
-        let question = format!("{} holds a LUKS drive, which will be lost.", image.path().display());
-        if !passphrase::confirmed(&question)? {
-            return Err(Failure::new(failure::BAD_INPUT, "not confirmed; nothing was changed"));
-        }
-    }
-    let passphrase = passphrase::new(given.value("--key-file"), "Passphrase for the new drive: ")?;
+    confirm_loss(given, &image)?;
+    let passphrase = passphrase::new(&source, "Passphrase for the new drive: ")?;
     let header = add_key(&mut image, FIRST_SLOT, &key, &passphrase, count)?;
     image.write_back(&stages::of_format(&header))?;
     say(format!("made a drive with the UUID {uuid}; key slot {FIRST_SLOT} holds the passphrase"))
 }
 
+// Asks before anything but zeros is overwritten. The engine has made the new drive in memory by now.
+fn confirm_loss(given: &Given, image: &ImageFile) -> Result<(), Failure> {
+    let header = Header::of(image.bytes()).ok_or_else(|| Failure::refused(Refusal::ImageSize))?;
+    let zeroed = image.beginning(header.payload_start as usize * SECTOR)?;
+    let Some(found) = signatures::found(&zeroed) else { return Ok(()) };
+    let holds = format!("{} holds {found}", shown(image.path()));
+    let no_terminal = format!("{holds}, which would be lost; use another file, or --force to overwrite it");
+    confirm(given, &format!("{holds}, which will be lost."), Failure::new(failure::CANNOT_WRITE, no_terminal))
+}
+
+// Asks for "yes" where there is a terminal; with --force there is nothing to ask.
+fn confirm(given: &Given, question: &str, no_terminal: Failure) -> Result<(), Failure> {
+    if given.has("--force") {
+        return Ok(());
+    }
+    match passphrase::confirmed(question) {
+        Ok(true) => Ok(()),
+        Ok(false) => Err(Failure::new(failure::BAD_INPUT, "not confirmed; nothing was changed")),
+        Err(_) => Err(no_terminal),
+    }
+}
+
 pub fn add(given: &Given) -> Result<(), Failure> {
     given.check_standard_input()?;
-    let count = iterations(given)?;
+    let (old_source, new_source) = (Source::of(given, "--key-file")?, Source::of(given, "--new-key-file")?);
     let (mut image, header) = checked(given, Purpose::Writing)?;
+    let count = iterations(given, header.key_bytes as usize)?;
     let slot = free_slot(given.slot("--slot")?, &header)?;
-    let opened = open(&mut image, None, given.value("--key-file"), "Passphrase that the drive has: ")?;
-    let passphrase = passphrase::new(given.value("--new-key-file"), &format!("New passphrase, for key slot {slot}: "))?;
+    let opened = open(&mut image, None, &old_source, "Passphrase that the drive has: ")?;
+    let passphrase = passphrase::new(&new_source, &format!("New passphrase, for key slot {slot}: "))?;
     let header = add_key(&mut image, slot, &opened.key, &passphrase, count)?;
     image.write_back(&stages::of_add(&header, slot))?;
-    say(format!("key slot {slot} holds the new passphrase"))
+    say(format!("key slot {} holds the new passphrase", numbered(slot)))
 }
 
 pub fn change(given: &Given) -> Result<(), Failure> {
     given.check_standard_input()?;
-    let count = iterations(given)?;
+    let (old_source, new_source) = (Source::of(given, "--key-file")?, Source::of(given, "--new-key-file")?);
     let (mut image, header) = checked(given, Purpose::Writing)?;
+    let count = iterations(given, header.key_bytes as usize)?;
     let to = free_slot(given.slot("--to")?, &header)?;
-    let old = passphrase::existing(given.value("--key-file"), "Old passphrase: ")?;
-    let from = opened_with(&mut image, given.slot("--slot")?, &old)?.slot;
-    let new = passphrase::new(given.value("--new-key-file"), &format!("New passphrase, for key slot {to}: "))?;
+    let from = given.slot("--slot")?;
+    let (opened, old) =
+        passphrase::tried(&old_source, "Old passphrase: ", |passphrase| opened_with(&mut image, from, passphrase))?;
+    let from = opened.slot;
+    let new = passphrase::new(&new_source, &format!("New passphrase, for key slot {to}: "))?;
 
     let before = image.bytes()[..2 * SECTOR].to_vec();
     let (salt, random) = (random::salt()?, random::bytes(header.random_length(to))?);
     let filler = random::bytes(header.area_length(from))?;
-    let input = SlotInput { passphrase: &new, salt: &salt, count, random: random.expose() };
+    let input = SlotInput::new(&new, &salt, count, random.expose());
     let changed = image.drive().change(from, &old, to, &input, filler.expose());
     changed.map_err(|refusal| Failure::refused_slot(refusal, to))?;
     let stages = stages::of_change(&before, image.bytes(), &header, from, to);
     image.write_back(&stages)?;
-    say(format!("key slot {to} holds the new passphrase, and key slot {from} is free"))
+    say(format!("key slot {} holds the new passphrase, and key slot {} is free", numbered(to), numbered(from)))
 }
 
 pub fn revoke(given: &Given) -> Result<(), Failure> {
@@ -82,40 +109,59 @@ pub fn revoke(given: &Given) -> Result<(), Failure> {
     let filler = random::bytes(header.area_length(slot))?;
     let revoked = image.drive().revoke(slot, filler.expose());
     revoked.map_err(|refusal| of_used_slot(refusal, slot, &header))?;
+    let stay = match header.enabled_slots().count() - 1 {
+        1 => "1 other passphrase stays".into(),
+        others => format!("{others} other passphrases stay"),
+    };
+    let question = format!("Key slot {} of {} will be revoked; {stay}.", numbered(slot), shown(image.path()));
+    let no_terminal = "there is no terminal to ask at; use --force to revoke the key slot unasked";
+    confirm(given, &question, Failure::usage(no_terminal))?;
     image.write_back(&stages::of_revoke(&header, slot))?;
-    say(format!("key slot {slot} is free"))
+    say(format!("key slot {} is free; {stay}", numbered(slot)))
 }
 
 pub fn test(given: &Given) -> Result<(), Failure> {
+    let source = Source::of(given, "--key-file")?;
     let (mut image, _) = checked(given, Purpose::Reading)?;
-    let opened = open(&mut image, given.slot("--slot")?, given.value("--key-file"), "Passphrase: ")?;
+    let opened = open(&mut image, given.slot("--slot")?, &source, "Passphrase: ")?;
     transfer::print(&format!("key slot {} opens\n", opened.slot))
 }
 
 pub fn read(given: &Given) -> Result<(), Failure> {
     let target = given.required("--out")?;
+    let source = Source::of(given, "--key-file")?;
     let (mut image, header) = checked(given, Purpose::Reading)?;
     let first = given.number("--first")?.unwrap_or(0);
-    let payload = (image.bytes().len() / SECTOR) as u64 - u64::from(header.payload_start);
+    let payload = payload_units(&image, &header);
     let units = given.number("--units")?.unwrap_or(payload.saturating_sub(first));
-    let opened = open(&mut image, given.slot("--slot")?, given.value("--key-file"), "Passphrase: ")?;
+    let opened = open(&mut image, given.slot("--slot")?, &source, "Passphrase: ")?;
     transfer::check_range(&mut image, &opened.key, first, units).map_err(|refusal| beyond(refusal, payload))?;
-    let mut out = transfer::output(target, given.has("--force"), &image)?;
-    transfer::read(&mut image, &opened.key, first, units, &mut out)
+    let out = transfer::output(target, given.has("--force"), &image)?;
+    transfer::read(&image, &opened.key, first..first + units, out)
 }
 
 pub fn write(given: &Given) -> Result<(), Failure> {
     given.check_standard_input()?;
-    let source = given.required("--in")?;
+    let data = given.required("--in")?;
+    let source = Source::of(given, "--key-file")?;
     let (mut image, header) = checked(given, Purpose::Writing)?;
     let first = given.number("--first")?.unwrap_or(0);
-    let payload = (image.bytes().len() / SECTOR) as u64 - u64::from(header.payload_start);
-    let (mut input, units) = transfer::input(source, &image)?;
-    let opened = open(&mut image, given.slot("--slot")?, given.value("--key-file"), "Passphrase: ")?;
+    let payload = payload_units(&image, &header);
+    let (input, units) = transfer::input(data, &image)?;
+    let opened = open(&mut image, given.slot("--slot")?, &source, "Passphrase: ")?;
     transfer::check_range(&mut image, &opened.key, first, units.unwrap_or(0))
         .map_err(|refusal| beyond(refusal, payload))?;
-    let done = transfer::write(&mut image, &opened.key, first, &mut input, units)?;
-    say(format!("{done} units written"))
+    let done = transfer::write(&image, &opened.key, first, input, units)?;
+    say(format!("{} written", transfer::counted(done)))
+}
+
+fn payload_units(image: &ImageFile, header: &Header) -> u64 {
+    (image.bytes().len() / SECTOR) as u64 - u64::from(header.payload_start)
+}
+
+// A slot's number, and what cryptsetup and qemu call it.
+fn numbered(slot: u8) -> String {
+    format!("{slot} (cryptsetup's {})", slot - 1)
 }
 
 // Says what was done. It is done by now, so a standard output that is closed or full is no failure.
@@ -124,15 +170,22 @@ fn say(what: String) -> Result<(), Failure> {
     Ok(())
 }
 
-fn iterations(given: &Given) -> Result<u32, Failure> {
-    Ok(given.number_u32("--iterations")?.unwrap_or(ITERATIONS))
+// How often a derivation is iterated: as often as was asked for, or as is done here in the time that was asked for.
+fn iterations(given: &Given, key_bytes: usize) -> Result<u32, Failure> {
+    match (given.number_u32("--iterations")?, given.number("--iter-time")?) {
+        (Some(_), Some(_)) => Err(given.command.usage("--iterations and --iter-time cannot go together")),
+        (Some(count), None) => Ok(count),
+        (None, Some(milliseconds)) => rate::count_for(key_bytes, Duration::from_millis(milliseconds)),
+        (None, None) => Ok(ITERATIONS),
+    }
 }
 
 // Opens the file and has the engine check the header, before anything is asked for.
 fn checked(given: &Given, purpose: Purpose) -> Result<(ImageFile, Header), Failure> {
     let mut image = ImageFile::open(given.image(), purpose)?;
-    image.drive().check().map_err(Failure::refused)?;
-    let header = image.drive().header().ok_or_else(|| Failure::refused(Refusal::ImageSize))?;
+    let checked = image.drive().check();
+    checked.map_err(|refusal| Failure::refused_header(refusal, image.bytes()))?;
+    let header = Header::of(image.bytes()).ok_or_else(|| Failure::refused(Refusal::ImageSize))?;
     Ok((image, header))
 }
 
@@ -146,8 +199,10 @@ fn free_slot(asked: Option<u8>, header: &Header) -> Result<u8, Failure> {
         None => Err(Failure::refused_slot(Refusal::BadSlot, slot)),
         Some(record) if record.enabled => {
             let sentence = match header.free_slot() {
-                Some(free) => format!("key slot {slot} is in use; choose a free one, such as {free}"),
-                None => format!("key slot {slot} is in use, and so is every other; revoke one first"),
+                Some(free) => {
+                    format!("key slot {} is in use; choose a free one, such as {}", numbered(slot), numbered(free))
+                }
+                None => format!("key slot {} is in use, and so is every other; revoke one first", numbered(slot)),
             };
             Err(Failure::refused_because(Refusal::WrongState, sentence))
         }
@@ -155,14 +210,9 @@ fn free_slot(asked: Option<u8>, header: &Header) -> Result<u8, Failure> {
     }
 }
 
-fn open(
-    image: &mut ImageFile,
-    slot: Option<u8>,
-    key_file: Option<&std::ffi::OsStr>,
-    prompt: &str,
-) -> Result<Opened, Failure> {
-    let passphrase = passphrase::existing(key_file, prompt)?;
-    opened_with(image, slot, &passphrase)
+fn open(image: &mut ImageFile, slot: Option<u8>, source: &Source, prompt: &str) -> Result<Opened, Failure> {
+    let (opened, _) = passphrase::tried(source, prompt, |passphrase| opened_with(image, slot, passphrase))?;
+    Ok(opened)
 }
 
 // Opens one slot, or the first that the passphrase opens.
@@ -185,7 +235,7 @@ fn of_used_slot(refusal: Refusal, slot: u8, header: &Header) -> Failure {
     let used: Vec<String> = header.enabled_slots().map(|slot| slot.to_string()).collect();
     match refusal {
         Refusal::WrongState => {
-            let sentence = format!("key slot {slot} is not in use; these are: {}", used.join(", "));
+            let sentence = format!("key slot {} is not in use; these are: {}", numbered(slot), used.join(", "));
             Failure::refused_because(refusal, sentence)
         }
         Refusal::WrongKey => {
@@ -212,7 +262,7 @@ fn add_key(image: &mut ImageFile, slot: u8, key: &Secret, passphrase: &Secret, c
     let mut drive = image.drive();
     let header = drive.header().ok_or_else(|| Failure::refused(Refusal::ImageSize))?;
     let (salt, random) = (random::salt()?, random::bytes(header.random_length(slot))?);
-    let input = SlotInput { passphrase, salt: &salt, count, random: random.expose() };
+    let input = SlotInput::new(passphrase, &salt, count, random.expose());
     drive.add(slot, key, &input).map_err(|refusal| Failure::refused_slot(refusal, slot))?;
     Ok(header)
 }

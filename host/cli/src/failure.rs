@@ -1,7 +1,10 @@
 //! Why the tool gives up: an exit status and a message.
+use mivrozh::header::Names;
 use mivrozh::Refusal;
-use std::fmt::Display;
+use std::ffi::OsStr;
+use std::fmt::{self, Display, Write};
 use std::io;
+use std::os::unix::ffi::OsStrExt;
 use std::path::Path;
 
 /// 1 to 20 are the engine's refusals; the others are named here, and in the help.
@@ -42,19 +45,57 @@ impl Failure {
         Failure::new(refusal.number(), format!("refusal {}: {sentence}.", refusal.number()))
     }
 
+    /// A refusal of the header check. Where no profile fits, it says what the header has.
+    pub fn refused_header(refusal: Refusal, image: &[u8]) -> Failure {
+        let (Refusal::NoProfile, Some(names)) = (refusal, Names::of(image)) else { return Failure::refused(refusal) };
+        let name = |bytes: &[u8]| format!("'{}'", shown(OsStr::from_bytes(bytes)));
+        let sentence = format!(
+            "the drive has cipher {}, mode {}, hash {} and a key of {} bits; this tool knows aes, xts-plain64 and sha1 with \
+             256 or 512 bits; use a tool that knows the others",
+            name(names.cipher),
+            name(names.mode),
+            name(names.hash),
+            u64::from(names.key_bytes) * 8
+        );
+        Failure::refused_because(refusal, sentence)
+    }
+
     /// A file that cannot be read.
     pub fn no_input(path: &Path, error: &io::Error) -> Failure {
-        Failure::new(NO_INPUT, format!("{}: {}", path.display(), said(error)))
+        Failure::new(NO_INPUT, format!("{}: {}", shown(path), said(error)))
     }
 
     /// A file that cannot be opened for writing, or made.
     pub fn cannot_write(path: &Path, error: &io::Error) -> Failure {
-        Failure::new(CANNOT_WRITE, format!("{}: it cannot be opened for writing: {}", path.display(), said(error)))
+        Failure::new(CANNOT_WRITE, format!("{}: it cannot be opened for writing: {}", shown(path), said(error)))
     }
 
     /// Reading or writing that failed on the way.
     pub fn input_output(what: impl Display, error: &io::Error) -> Failure {
         Failure::new(INPUT_OUTPUT, format!("{what}: {}", said(error)))
+    }
+}
+
+/// A name that was given, for a message: what is no text or would not show as it is, such as a control character, is
+/// escaped.
+pub fn shown(name: &(impl AsRef<OsStr> + ?Sized)) -> impl Display + '_ {
+    Shown(name.as_ref())
+}
+
+struct Shown<'a>(&'a OsStr);
+
+impl Display for Shown<'_> {
+    fn fmt(&self, f: &mut fmt::Formatter<'_>) -> fmt::Result {
+        for chunk in self.0.as_bytes().utf8_chunks() {
+            for character in chunk.valid().chars() {
+                match character {
+                    '\'' | '"' => f.write_char(character)?,
+                    other => write!(f, "{}", other.escape_debug())?,
+                }
+            }
+            write!(f, "{}", chunk.invalid().escape_ascii())?;
+        }
+        Ok(())
     }
 }
 
@@ -66,5 +107,21 @@ fn said(error: &io::Error) -> String {
         io::ErrorKind::ReadOnlyFilesystem => "the file system is read-only; mount it for writing".into(),
         io::ErrorKind::StorageFull => "the disk is full; make room and try again".into(),
         _ => error.to_string(),
+    }
+}
+
+#[cfg(test)]
+mod tests {
+    use super::*;
+
+    #[test]
+    fn names_are_escaped() {
+        let of = |bytes: &[u8]| shown(OsStr::from_bytes(bytes)).to_string();
+        assert_eq!(of(b"plain name.img"), "plain name.img");
+        assert_eq!(of("Forelle \u{e4}'s \"year\"".as_bytes()), "Forelle \u{e4}'s \"year\"");
+        assert_eq!(of(b"\x1b[2J\n\r\x07\x7f"), "\\u{1b}[2J\\n\\r\\u{7}\\u{7f}");
+        assert_eq!(of("a\u{202e}b".as_bytes()), "a\\u{202e}b");
+        assert_eq!(of(b"\xff\xfeend\xc3"), "\\xff\\xfeend\\xc3");
+        assert_eq!(of(b"back\\slash"), "back\\\\slash");
     }
 }

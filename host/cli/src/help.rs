@@ -1,7 +1,7 @@
 //! The help texts.
 
 pub const TOOL: &str = "\
-mivrozh: LUKS version 1 drives in image files
+mivrozh: LUKS version 1 drives in files and block devices
 
 Usage: mivrozh COMMAND [OPTIONS] IMAGE
 
@@ -14,23 +14,34 @@ Commands:
   read     decipher units of the payload into a file
   write    encipher a file into units of the payload
 
-'mivrozh COMMAND --help' says more about each, with an example.
+For installers:
+  manual                print the manual page, mivrozh(1)
+  completions SHELL     print completions for a shell: bash, zsh or fish
+
+'mivrozh help COMMAND' says more about each, with an example; 'mivrozh -V' prints the version.
 
 IMAGE is a file or a block device that holds a whole drive. A passphrase is read from a key file (--key-file, every byte
-of it, a newline too; '-' is standard input), or asked for at the terminal; it is never an argument. A drive has eight key
-slots, 1 to 8, with one passphrase each. A unit of the payload is 512 bytes.
+of it, a newline too, or the bytes that --key-file-offset and --key-file-size name; '-' is standard input), or asked for at
+the terminal, up to three times where it is mistyped; it is never an argument. A drive has eight key slots, 1 to 8, with one
+passphrase each. cryptsetup and qemu count the same slots from 0: our slot 1 is their slot 0. A unit of the payload is 512
+bytes.
 
-A drive is changed under a lock, sector by sector, so that a cut leaves it open to the old or to the new passphrase.
+A drive is changed sector by sector, in an order in which a cut leaves it open to the old or to the new passphrase. While
+the tool uses it, it is locked against other runs of this tool and against qemu; a block device that is written must be in
+use by nothing else, such as a mounted file system, and a file must not be attached to a loop device. Programs that keep to
+no lock cannot be kept away: cryptsetup on drives of version 1, dd, or another machine that shares the disk.
 
 Exit status:
    0       done
    1 to 20 refused; the message says why and what to do, and nothing was changed (but see 'mivrozh write --help')
   64       wrong usage
-  65       wrong input: passphrases that differ, data that is no whole number of units
+  65       wrong input: passphrases that differ, a key file that is too short, a question not answered by yes, data that is no
+           whole number of units
   66       a file that is missing or cannot be read
   73       a file that cannot be opened for writing, or that is there already
   74       reading or writing failed on the way, as on a full disk
-  75       another program is using the image
+  75       another program is using the image or has changed it meanwhile
+ 130       interrupted by Ctrl-C (other signals likewise: 128 and the signal's number)
 
 Example:
   truncate -s 64M drive.img
@@ -44,16 +55,22 @@ mivrozh format: make a new drive
 Usage: mivrozh format [OPTIONS] IMAGE
 
 Makes a random master key, writes a new header and puts the key under a first passphrase into key slot 1. The file must be
-there and be long enough: 2,066,944 bytes and the payload with the default values. The payload keeps its bytes. What an older
-drive in the file held can be opened no more; before that is overwritten you are asked.
+there and be long enough: 2,066,944 bytes and the payload with the default values. The payload keeps its bytes. All that
+stands before it is lost: an older drive, a file system or a partition table. Where that is anything but zeros, you are told
+what it is and asked.
 
 Options:
-  --key-size BITS    256 or 512 (default 512)
-  --iterations N     how often each derivation is iterated, 1000 or more (default 500000)
-  --stripes N        stripes of each key slot, 1 to 4000 (default 4000; other tools read no others)
-  --uuid TEXT        36 characters (default: a random UUID)
-  --key-file FILE    the passphrase; without it you are asked, twice
-  --force            overwrite an older drive without asking
+  --key-size BITS            256 or 512 (default 512)
+  --iterations N             how often the slot's derivation is iterated, 1000 or more (default 500000)
+  --iter-time MS             as often as this machine does in so many milliseconds
+  --checksum-iterations N    how often the derivation of the key's checksum is, 1000 or more (default: an eighth of the
+                             slot's)
+  --stripes N                stripes of each key slot, 1 to 4000 (default 4000; other tools read no others)
+  --uuid TEXT                36 characters (default: a random UUID)
+  --key-file FILE            the passphrase; without it you are asked, twice
+  --key-file-offset N        where in the key file the passphrase begins, in bytes (default 0)
+  --key-file-size N          how many bytes of the key file it has (default: all up to the end)
+  --force                    overwrite what is there without asking
 
 Example:
   truncate -s 64M drive.img
@@ -68,10 +85,15 @@ Usage: mivrozh add [OPTIONS] IMAGE
 Opens the drive with a passphrase that it has, and puts its key under a new one into a free key slot.
 
 Options:
-  --slot N               the key slot, 1 to 8 (default: the first free one)
-  --iterations N         how often the derivation is iterated, 1000 or more (default 500000)
-  --key-file FILE        a passphrase that the drive has; without it you are asked
-  --new-key-file FILE    the new passphrase; without it you are asked, twice
+  --slot N                   the key slot, 1 to 8 (default: the first free one); cryptsetup counts from 0: our 1 is its 0
+  --iterations N             how often the derivation is iterated, 1000 or more (default 500000)
+  --iter-time MS             as often as this machine does in so many milliseconds
+  --key-file FILE            a passphrase that the drive has; without it you are asked
+  --key-file-offset N        where in the key file the passphrase begins, in bytes (default 0)
+  --key-file-size N          how many bytes of the key file it has (default: all up to the end)
+  --new-key-file FILE        the new passphrase; without it you are asked, twice
+  --new-key-file-offset N    where in its key file the new passphrase begins, in bytes (default 0)
+  --new-key-file-size N      how many bytes of its key file it has (default: all up to the end)
 
 Example:
   mivrozh add --slot 2 --new-key-file second.key drive.img
@@ -86,11 +108,17 @@ Opens a key slot with its passphrase, puts the key under the new passphrase into
 a free slot is needed, and the passphrase has another slot afterwards.
 
 Options:
-  --slot N               the key slot to change (default: the first that the passphrase opens)
-  --to N                 the key slot for the new passphrase (default: the first free one)
-  --iterations N         how often the derivation is iterated, 1000 or more (default 500000)
-  --key-file FILE        the old passphrase; without it you are asked
-  --new-key-file FILE    the new passphrase; without it you are asked, twice
+  --slot N                   the key slot to change, 1 to 8 (default: the first that the passphrase opens); cryptsetup
+                             counts from 0: our 1 is its 0
+  --to N                     the key slot for the new passphrase, 1 to 8 (default: the first free one)
+  --iterations N             how often the derivation is iterated, 1000 or more (default 500000)
+  --iter-time MS             as often as this machine does in so many milliseconds
+  --key-file FILE            the old passphrase; without it you are asked
+  --key-file-offset N        where in the key file the passphrase begins, in bytes (default 0)
+  --key-file-size N          how many bytes of the key file it has (default: all up to the end)
+  --new-key-file FILE        the new passphrase; without it you are asked, twice
+  --new-key-file-offset N    where in its key file the new passphrase begins, in bytes (default 0)
+  --new-key-file-size N      how many bytes of its key file it has (default: all up to the end)
 
 Example:
   mivrozh change --slot 1 --to 2 drive.img
@@ -99,13 +127,14 @@ Example:
 pub const REVOKE: &str = "\
 mivrozh revoke: remove a passphrase
 
-Usage: mivrozh revoke --slot N IMAGE
+Usage: mivrozh revoke [OPTIONS] --slot N IMAGE
 
-Overwrites the slot's area with random bytes and disables the slot. No passphrase is asked for. The last slot in use is not
-revoked.
+Overwrites the slot's area with random bytes and disables the slot. No passphrase is asked for, but whether this slot is
+meant. The last slot in use is not revoked.
 
 Options:
-  --slot N    the key slot, 1 to 8
+  --slot N    the key slot, 1 to 8; cryptsetup counts from 0: our 1 is its 0
+  --force     revoke it without asking
 
 Example:
   mivrozh revoke --slot 2 drive.img
@@ -119,8 +148,10 @@ Usage: mivrozh test [OPTIONS] IMAGE
 Tries the enabled key slots from 1 to 8, prints the first that opens, and changes nothing.
 
 Options:
-  --slot N           try this key slot only
-  --key-file FILE    the passphrase; without it you are asked
+  --slot N               try this key slot only, 1 to 8; cryptsetup counts from 0: our 1 is its 0
+  --key-file FILE        the passphrase; without it you are asked
+  --key-file-offset N    where in the key file the passphrase begins, in bytes (default 0)
+  --key-file-size N      how many bytes of the key file it has (default: all up to the end)
 
 Example:
   mivrozh test --key-file first.key drive.img
@@ -131,13 +162,17 @@ mivrozh read: decipher units of the payload
 
 Usage: mivrozh read [OPTIONS] --out FILE IMAGE
 
+Deciphers on all processors, with less than 64 MiB of memory. The file is made for its owner only (mode 0600).
+
 Options:
-  --first N          the first unit, counted from 0 (default 0)
-  --units N          how many units of 512 bytes (default: all up to the end)
-  --out FILE         where the plain bytes go; '-' is standard output
-  --force            overwrite the file if it is there
-  --slot N           open this key slot only
-  --key-file FILE    the passphrase; without it you are asked
+  --first N              the first unit, counted from 0 (default 0)
+  --units N              how many units of 512 bytes (default: all up to the end)
+  --out FILE             where the plain bytes go; '-' is standard output
+  --force                overwrite the file if it is there, or write to a terminal
+  --slot N               open this key slot only
+  --key-file FILE        the passphrase; without it you are asked
+  --key-file-offset N    where in the key file the passphrase begins, in bytes (default 0)
+  --key-file-size N      how many bytes of the key file it has (default: all up to the end)
 
 Example:
   mivrozh read --first 0 --units 2048 --out plain.img drive.img
@@ -148,14 +183,16 @@ mivrozh write: encipher data into units of the payload
 
 Usage: mivrozh write [OPTIONS] --in FILE IMAGE
 
-The data must be a whole number of units of 512 bytes. They are written in rising order; where they come from standard input
-and end or fail early, the units before are written.
+The data must be a whole number of units of 512 bytes. They are enciphered on all processors, with less than 64 MiB of
+memory, and written in rising order; where they come from standard input and end or fail early, the units before are written.
 
 Options:
-  --first N          the first unit, counted from 0 (default 0)
-  --in FILE          the plain bytes; '-' is standard input
-  --slot N           open this key slot only
-  --key-file FILE    the passphrase; without it you are asked
+  --first N              the first unit, counted from 0 (default 0)
+  --in FILE              the plain bytes; '-' is standard input
+  --slot N               open this key slot only
+  --key-file FILE        the passphrase; without it you are asked
+  --key-file-offset N    where in the key file the passphrase begins, in bytes (default 0)
+  --key-file-size N      how many bytes of the key file it has (default: all up to the end)
 
 Example:
   mivrozh write --first 0 --in plain.img drive.img

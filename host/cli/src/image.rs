@@ -1,17 +1,28 @@
-//! An image file: opened, locked and mapped. The engine works on the mapping; the file changes only by `write_back`.
-use crate::failure::{self, Failure};
+//! An image file: opened, locked, and loaded into memory of this process. The engine works on that memory; the file changes
+//! only by `write_back` and `store`.
+use crate::failure::{self, shown, Failure};
+use crate::small;
 use crate::stages::Stage;
-use crate::system::Mapping;
-use mivrozh::header::SECTOR;
-use mivrozh::Drive;
+use crate::system::{self, Memory};
+use mivrozh::header::{Header, SECTOR, SLOTS};
+use mivrozh::{Drive, Secret};
 use std::fs::{File, OpenOptions, TryLockError};
 use std::io::{self, Seek, SeekFrom};
-use std::os::unix::fs::{FileExt, FileTypeExt, MetadataExt};
+use std::ops::Range;
+use std::os::unix::ffi::OsStrExt;
+use std::os::unix::fs::{FileExt, FileTypeExt, MetadataExt, OpenOptionsExt};
 use std::path::{Path, PathBuf};
 
-// How many bytes of the file are compared with the mapping at once.
+// The header and what follows it up to the first key area that format makes.
+const LEAD: usize = 8 * SECTOR;
+// The sectors that hold the header.
+const HEADER_SECTORS: usize = 2 * SECTOR;
+// How many bytes of the file are compared with the memory at once.
 const WINDOW: usize = 2048 * SECTOR;
+// Of a block device: it is in use by nothing else that asks for this, such as a mounted file system.
+const O_EXCL: i32 = 0o200;
 
+#[derive(Clone, Copy, PartialEq)]
 pub enum Purpose {
     Reading,
     Writing,
@@ -20,35 +31,41 @@ pub enum Purpose {
 pub struct ImageFile {
     path: PathBuf,
     file: File,
-    length: usize,
-    mapping: Mapping,
+    // The header and the key areas as they were loaded and, after a call, as the engine has left them.
+    memory: Memory,
+    // The header's sectors as they are on the disk.
+    header: Vec<u8>,
 }
 
 impl ImageFile {
-    /// Opens, locks and maps a file or block device.
+    /// Opens and locks a file or block device and loads its header and key areas.
     pub fn open(path: &Path, purpose: Purpose) -> Result<ImageFile, Failure> {
         let kind = path.metadata().map_err(|error| Failure::no_input(path, &error))?.file_type();
         if !(kind.is_file() || kind.is_block_device()) {
-            let message = format!("{}: neither a file nor a block device; give a drive's image", path.display());
+            let message = format!("{}: neither a file nor a block device; give a drive's image", shown(path));
             return Err(Failure::new(failure::NO_INPUT, message));
         }
-        let writing = matches!(purpose, Purpose::Writing);
-        let mut file = OpenOptions::new().read(true).write(writing).open(path).map_err(|error| match purpose {
-            Purpose::Reading => Failure::no_input(path, &error),
-            Purpose::Writing => Failure::cannot_write(path, &error),
-        })?;
+        let writing = purpose == Purpose::Writing;
+        let exclusive = if writing && kind.is_block_device() { O_EXCL } else { 0 };
+        let file = OpenOptions::new().read(true).write(writing).custom_flags(exclusive).open(path);
+        let mut file = file.map_err(|error| cannot_open(path, purpose, &error))?;
         lock(&file, path, purpose)?;
+        if writing {
+            not_attached(&file, path)?;
+        }
         let length = length_of(&mut file).map_err(|error| Failure::no_input(path, &error))?;
-        let mapping = map(&file, length, path)?;
-        Ok(ImageFile { path: path.to_path_buf(), file, length, mapping })
+        let mut image = ImageFile { path: path.into(), file, memory: memory(length, path)?, header: Vec::new() };
+        image.load_header_and_areas(purpose)?;
+        Ok(image)
     }
 
-    pub fn drive(&mut self) -> Drive<'_> {
-        Drive::over(self.mapping.bytes())
+    pub fn drive(&mut self) -> Drive<&mut [u8]> {
+        Drive::over(self.memory.bytes_mut())
     }
 
-    pub fn bytes(&mut self) -> &[u8] {
-        self.mapping.bytes()
+    /// The drive's bytes as far as they are loaded: the header and the key areas.
+    pub fn bytes(&self) -> &[u8] {
+        self.memory.bytes()
     }
 
     pub fn path(&self) -> &Path {
@@ -60,30 +77,114 @@ impl ImageFile {
         self.file.metadata().is_ok_and(|own| (own.dev(), own.ino()) == (other.dev(), other.ino()))
     }
 
+    /// The file's own bytes from its start, whatever the engine has made of the memory.
+    pub fn beginning(&self, length: usize) -> Result<Vec<u8>, Failure> {
+        let mut bytes = vec![0; length];
+        self.file.read_exact_at(&mut bytes, 0).map_err(|error| self.unreadable(&error))?;
+        Ok(bytes)
+    }
+
+    /// Memory of the drive's length with its header and nothing else, for a thread that works on parts of the payload with
+    /// the key that has opened the drive. The header has a checksum of that key that takes no time: each call derives it.
+    pub fn for_transfers(&self, key: &Secret) -> Result<Memory, Failure> {
+        let mut memory = memory(self.bytes().len(), &self.path)?;
+        let lead = LEAD.min(self.bytes().len());
+        memory.bytes_mut()[..lead].copy_from_slice(&self.bytes()[..lead]);
+        small::put_quick_checksum(memory.bytes_mut(), key).map_err(Failure::refused)?;
+        Ok(memory)
+    }
+
+    /// Reads a part of the file into memory of the drive's length.
+    pub fn load(&self, memory: &mut Memory, part: Range<usize>) -> Result<(), Failure> {
+        let at = part.start as u64;
+        self.file.read_exact_at(&mut memory.bytes_mut()[part], at).map_err(|error| self.unreadable(&error))
+    }
+
+    /// Writes a part of the payload to the file at once; `flush` brings it to the disk.
+    pub fn store(&self, memory: &Memory, part: Range<usize>) -> Result<(), Failure> {
+        self.check_header_on_disk()?;
+        let at = part.start as u64;
+        self.file.write_all_at(&memory.bytes()[part], at).map_err(|error| self.unwritten(&error))
+    }
+
+    pub fn flush(&self) -> Result<(), Failure> {
+        self.file.sync_data().map_err(|error| self.unwritten(&error))
+    }
+
     /// Writes the stages to the file, one after the other, each flushed to the disk before the next begins. Of a stage only
-    /// the sectors are written that differ from the file's.
+    /// the sectors are written that differ from the file's, one by one.
     pub fn write_back(&mut self, stages: &[Stage]) -> Result<(), Failure> {
+        self.check_header_on_disk()?;
         for stage in stages {
-            let image = self.mapping.bytes();
             let (at, bytes) = match stage {
                 Stage::Sectors(sectors) => {
                     let at = sectors.start * SECTOR;
-                    (at, &image[at..sectors.end * SECTOR])
+                    (at, &self.bytes()[at..sectors.end * SECTOR])
                 }
                 Stage::Given { sector, bytes } => (sector * SECTOR, &bytes[..]),
             };
-            let written = write_changed(&self.file, at, bytes).and_then(|()| self.file.sync_data());
-            let what = format_args!("{}: not everything could be written", self.path.display());
-            written.map_err(|error| Failure::input_output(what, &error))?;
+            write_changed(&self.file, at, bytes).map_err(|error| self.unwritten(&error))?;
+            self.flush()?;
         }
         Ok(())
     }
 
-    /// Maps the file anew: the memory of what was read, and of what was changed and written back, is free again.
-    pub fn remap(&mut self) -> Result<(), Failure> {
-        self.mapping = map(&self.file, self.length, &self.path)?;
+    // The part that the engine's checks and openings look at, and for writing what stands beside what is written. Where the
+    // header is damaged, what lies outside of the image is left out: the engine refuses it.
+    fn load_header_and_areas(&mut self, purpose: Purpose) -> Result<(), Failure> {
+        let lead = LEAD.min(self.bytes().len());
+        self.load_own(0..lead)?;
+        self.header = self.bytes()[..HEADER_SECTORS.min(lead)].to_vec();
+        let Some(header) = Header::of(self.bytes()) else { return Ok(()) };
+        for number in 1..=SLOTS {
+            let Some(slot) = header.slot(number) else { continue };
+            let start = slot.start as usize * SECTOR;
+            let end = start + header.area_length(number).next_multiple_of(SECTOR);
+            let is_looked_at = slot.enabled || purpose == Purpose::Writing;
+            if is_looked_at && start >= HEADER_SECTORS && end <= self.bytes().len() {
+                // What is loaded twice where a header's areas overlap is the same.
+                self.load_own(start.max(lead)..end.max(lead))?;
+            }
+        }
         Ok(())
     }
+
+    fn load_own(&mut self, part: Range<usize>) -> Result<(), Failure> {
+        let at = part.start as u64;
+        let read = self.file.read_exact_at(&mut self.memory.bytes_mut()[part], at);
+        read.map_err(|error| self.unreadable(&error))
+    }
+
+    // Is the header on the disk the one that was loaded? A program that keeps to no lock may have changed it.
+    fn check_header_on_disk(&self) -> Result<(), Failure> {
+        let there = self.beginning(self.header.len())?;
+        if there == self.header {
+            return Ok(());
+        }
+        let message = format!(
+            "{}: another program has changed its header meanwhile; see to that and try again",
+            shown(&self.path)
+        );
+        Err(Failure::new(failure::BUSY, message))
+    }
+
+    fn unreadable(&self, error: &io::Error) -> Failure {
+        let path = shown(&self.path);
+        if error.kind() == io::ErrorKind::UnexpectedEof {
+            let message = format!("{path}: another program has made it shorter; see to that and try again");
+            return Failure::new(failure::INPUT_OUTPUT, message);
+        }
+        Failure::input_output(format_args!("{path}: it cannot be read"), error)
+    }
+
+    fn unwritten(&self, error: &io::Error) -> Failure {
+        Failure::input_output(format_args!("{}: not everything could be written", shown(&self.path)), error)
+    }
+}
+
+fn memory(length: usize, path: &Path) -> Result<Memory, Failure> {
+    Memory::zeros(length)
+        .map_err(|error| Failure::input_output(format_args!("{}: no memory of its length", shown(path)), &error))
 }
 
 // Writes each sector that differs from the file's, in rising order.
@@ -100,26 +201,59 @@ fn write_changed(file: &File, at: usize, bytes: &[u8]) -> io::Result<()> {
     Ok(())
 }
 
-fn lock(file: &File, path: &Path, purpose: Purpose) -> Result<(), Failure> {
-    let locked = match purpose {
-        Purpose::Reading => file.try_lock_shared(),
-        Purpose::Writing => file.try_lock(),
-    };
-    match locked {
-        Ok(()) => Ok(()),
-        Err(TryLockError::WouldBlock) => {
-            let message = format!("{}: another program is using it; wait until that has ended", path.display());
-            Err(Failure::new(failure::BUSY, message))
+fn cannot_open(path: &Path, purpose: Purpose, error: &io::Error) -> Failure {
+    match purpose {
+        _ if error.kind() == io::ErrorKind::ResourceBusy => {
+            let message = format!(
+                "{}: the device is in use, as by a mounted file system or an open drive; unmount or close that first",
+                shown(path)
+            );
+            Failure::new(failure::BUSY, message)
         }
+        Purpose::Reading => Failure::no_input(path, error),
+        Purpose::Writing => Failure::cannot_write(path, error),
+    }
+}
+
+// Two locks: one that programs like this one see, and one that qemu sees. A file system without the second kind has the first.
+fn lock(file: &File, path: &Path, purpose: Purpose) -> Result<(), Failure> {
+    let (whole, by_range) = match purpose {
+        Purpose::Reading => (file.try_lock_shared(), system::lock_for_reading(file)),
+        Purpose::Writing => (file.try_lock(), system::lock_for_writing(file)),
+    };
+    match whole {
         Err(TryLockError::Error(error)) => {
-            Err(Failure::input_output(format_args!("{}: it cannot be locked", path.display()), &error))
+            Err(Failure::input_output(format_args!("{}: it cannot be locked", shown(path)), &error))
+        }
+        Ok(()) if by_range.unwrap_or(true) => Ok(()),
+        Ok(()) | Err(TryLockError::WouldBlock) => {
+            let message = format!("{}: another program is using it; wait until that has ended", shown(path));
+            Err(Failure::new(failure::BUSY, message))
         }
     }
 }
 
-fn map(file: &File, length: usize, path: &Path) -> Result<Mapping, Failure> {
-    Mapping::of(file, length)
-        .map_err(|error| Failure::input_output(format_args!("{}: it cannot be mapped", path.display()), &error))
+// A file behind a loop device may hold a mounted file system or an open drive, of which no lock of the file tells.
+fn not_attached(file: &File, path: &Path) -> Result<(), Failure> {
+    let Some(device) = loop_device(file) else { return Ok(()) };
+    let message = format!(
+        "{}: it is attached to {device}; detach it (losetup -d {device}), or give the device in its place",
+        shown(path)
+    );
+    Err(Failure::new(failure::BUSY, message))
+}
+
+// The loop device that this file stands behind, as far as the system shows it.
+fn loop_device(file: &File) -> Option<String> {
+    let own = file.metadata().ok().filter(|own| own.is_file())?;
+    let devices = Path::new("/sys/block").read_dir().ok()?.flatten();
+    let is_behind = |device: &std::fs::DirEntry| {
+        let name = std::fs::read(device.path().join("loop/backing_file")).unwrap_or_default();
+        let name = Path::new(std::ffi::OsStr::from_bytes(name.strip_suffix(b"\n").unwrap_or(&name)));
+        name.metadata().is_ok_and(|behind| (behind.dev(), behind.ino()) == (own.dev(), own.ino()))
+    };
+    let device = devices.into_iter().find(is_behind)?;
+    Some(format!("/dev/{}", device.file_name().display()))
 }
 
 // A block device says 0 as its length, but its end can be found.

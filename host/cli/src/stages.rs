@@ -46,12 +46,6 @@ pub fn of_format(header: &Header) -> Vec<Stage> {
     ]
 }
 
-/// Units of the payload, in rising order.
-pub fn of_write(header: &Header, first: u64, units: u64) -> Vec<Stage> {
-    let start = u64::from(header.payload_start) + first;
-    vec![Stage::Sectors(start as usize..(start + units) as usize)]
-}
-
 fn area(header: &Header, slot: u8) -> Stage {
     let start = header.slot(slot).map_or(0, |slot| slot.start as usize);
     Stage::Sectors(start..start + header.area_length(slot).div_ceil(SECTOR))

@@ -26,7 +26,7 @@ fn the_life_of_a_drive() {
     folder.line("change --iterations 1000 --key-file one --new-key-file three drive").accepted();
     assert!(!folder.opens("one") && folder.opens("two"));
     assert_eq!(folder.line("test --key-file three drive").accepted().out, "key slot 2 opens\n");
-    folder.line("revoke --slot 7 drive").accepted();
+    folder.line("revoke --force --slot 7 drive").accepted();
     assert!(!folder.opens("two"));
 
     folder.line("read --key-file three --out back drive").accepted();
@@ -53,7 +53,7 @@ fn format_takes_its_options() {
         .accepted();
     let image = folder.get("new");
     assert_eq!(image[104..112], [0, 0, 0, 66, 0, 0, 0, 32], "payload start and key bytes");
-    assert_eq!(image[164..168], 2000u32.to_be_bytes(), "checksum count");
+    assert_eq!(image[164..168], 1000u32.to_be_bytes(), "checksum count");
     assert_eq!(&image[168..204], uuid.as_bytes());
     assert_eq!(image[212..216], 2000u32.to_be_bytes(), "the slot's count");
     assert_eq!(image[252..256], 16u32.to_be_bytes(), "the slot's stripes");
@@ -66,6 +66,7 @@ fn format_has_sound_defaults() {
     folder.line("format --key-file one new").accepted();
     let image = folder.get("new");
     assert_eq!(image[104..112], [0, 0, 0x0F, 0xC5, 0, 0, 0, 64], "payload start and key bytes");
+    assert_eq!(image[164..168], 62_500u32.to_be_bytes(), "checksum count");
     assert_eq!(image[212..216], 500_000u32.to_be_bytes(), "the slot's count");
     assert_eq!(image[252..256], 4000u32.to_be_bytes(), "the slot's stripes");
     assert_eq!(folder.line("test --key-file one new").accepted().out, "key slot 1 opens\n");
@@ -87,7 +88,7 @@ fn format_over_a_drive_needs_force() {
     let folder = Folder::with_drive();
     let before = folder.get("drive");
     let line = format!("format --iterations 1000 --stripes {STRIPES} --key-file two drive");
-    folder.line(&line).failed(64, "--force");
+    folder.line(&line).failed(73, "drive holds a LUKS drive, which would be lost; use another file, or --force");
     assert_eq!(folder.get("drive"), before);
     folder.line(&format!("{line} --force")).accepted();
     assert!(folder.opens("two") && !folder.opens("one"));
@@ -99,7 +100,7 @@ fn add_uses_the_first_free_slot() {
     for slot in 2..=8 {
         let before = folder.get("drive");
         let said = folder.line("add --iterations 1000 --key-file one --new-key-file two drive").accepted();
-        assert_eq!(said.out, format!("key slot {slot} holds the new passphrase\n"));
+        assert_eq!(said.out, format!("key slot {slot} (cryptsetup's {}) holds the new passphrase\n", slot - 1));
         let changed = changed_sectors(&before, &folder.get("drive"));
         assert!(changed.iter().all(|&sector| sector < 2 || area(slot).contains(&sector)), "{changed:?}");
         assert!(area(slot).all(|sector| changed.contains(&sector)), "{changed:?}");
@@ -120,10 +121,16 @@ fn change_by_number_and_by_search() {
     folder.line("add --iterations 1000 --slot 3 --key-file one --new-key-file one drive").accepted();
     let said =
         folder.line("change --iterations 1000 --slot 3 --to 8 --key-file one --new-key-file two drive").accepted();
-    assert_eq!(said.out, "key slot 8 holds the new passphrase, and key slot 3 is free\n");
+    assert_eq!(
+        said.out,
+        "key slot 8 (cryptsetup's 7) holds the new passphrase, and key slot 3 (cryptsetup's 2) is free\n"
+    );
     folder.line("test --slot 1 --key-file one drive").accepted();
     let said = folder.line("change --iterations 1000 --key-file one --new-key-file three drive").accepted();
-    assert_eq!(said.out, "key slot 2 holds the new passphrase, and key slot 1 is free\n");
+    assert_eq!(
+        said.out,
+        "key slot 2 (cryptsetup's 1) holds the new passphrase, and key slot 1 (cryptsetup's 0) is free\n"
+    );
     assert!(!folder.opens("one") && folder.opens("two") && folder.opens("three"));
     let image = folder.get("drive");
     let slots: Vec<usize> = (1..=8).filter(|&slot| enabled(&image, slot)).collect();
@@ -135,7 +142,7 @@ fn revoke_overwrites_the_area() {
     let folder = Folder::with_drive();
     folder.line("add --iterations 1000 --key-file one --new-key-file two drive").accepted();
     let before = folder.get("drive");
-    folder.line("revoke --slot 1 drive").accepted();
+    folder.line("revoke --force --slot 1 drive").accepted();
     let after = folder.get("drive");
     let changed = changed_sectors(&before, &after);
     assert_eq!(changed, [0].into_iter().chain(area(1)).collect::<Vec<_>>());
@@ -209,6 +216,96 @@ fn a_huge_image_is_not_read_whole() {
     folder.line(&format!("read --key-file one --first {last} --out back huge")).accepted();
     assert_eq!(folder.get("back"), pattern(512));
     assert!(start.elapsed() < Duration::from_secs(20));
+}
+
+#[test]
+fn one_unit_is_one_unit() {
+    let folder = Folder::with_drive();
+    folder.put("one-unit", pattern(512));
+    assert_eq!(folder.line("write --key-file one --in one-unit drive").accepted().out, "1 unit written\n");
+    folder.put("two-units", pattern(1024));
+    assert_eq!(folder.line("write --key-file one --in two-units drive").accepted().out, "2 units written\n");
+}
+
+// A name that is no text, for the key file in both forms, and for the image.
+#[test]
+fn names_need_not_be_text() {
+    use std::ffi::OsStr;
+    use std::os::unix::ffi::OsStrExt;
+    let folder = Folder::with_drive();
+    let name = OsStr::from_bytes(b"key\xff\xfe");
+    std::fs::copy(folder.path("one"), folder.path(name)).expect("a copy");
+    std::fs::copy(folder.path("drive"), folder.path(OsStr::from_bytes(b"drive\xe4"))).expect("a copy");
+    let inline = OsStr::from_bytes(b"--key-file=key\xff\xfe");
+    let image = OsStr::from_bytes(b"drive\xe4");
+    folder.run([OsStr::new("test"), inline, OsStr::new("drive")]).accepted();
+    folder.run([OsStr::new("test"), OsStr::new("--key-file"), name, image]).accepted();
+    let missing = [OsStr::new("test"), OsStr::from_bytes(b"--key-file=no\xff"), image];
+    folder.run(missing).failed(66, "no\\xff: there is no such file");
+}
+
+// Counts of the slot and of the checksum, as the header has them.
+fn counts(folder: &Folder, name: &str) -> (u32, u32) {
+    let image = folder.get(name);
+    let number = |at: usize| u32::from_be_bytes(image[at..at + 4].try_into().expect("four bytes"));
+    (number(212), number(164))
+}
+
+#[test]
+fn iterations_by_number_and_by_time() {
+    let folder = Folder::with_drive();
+    let format = |options: &str| {
+        folder.put("new", vec![0; 70 * 512]);
+        folder.line(&format!("format {options} --stripes 1 --key-file one new"))
+    };
+    format("--iterations 24000").accepted();
+    assert_eq!(counts(&folder, "new"), (24_000, 3000));
+    format("--iterations 2000 --checksum-iterations 5000").accepted();
+    assert_eq!(counts(&folder, "new"), (2000, 5000));
+    format("--iterations 2000 --checksum-iterations 999").refused(10, "use 1,000 or more");
+    format("--iterations 2000 --iter-time 10").failed(64, "--iterations and --iter-time cannot go together");
+    format("--iter-time soon").failed(64, "--iter-time needs a number");
+    format("--iter-time 0").accepted();
+    assert_eq!(counts(&folder, "new"), (1000, 1000));
+    format("--iter-time 300").accepted();
+    let (slot, checksum) = counts(&folder, "new");
+    assert_eq!(checksum, (slot / 8).max(1000));
+    // As long as was asked for, on a machine that may be doing other things.
+    let start = Instant::now();
+    folder.line("test --key-file one new").accepted();
+    let took = start.elapsed();
+    assert!(took > Duration::from_millis(50) && took < Duration::from_secs(10), "{slot} took {took:?}");
+    folder.line("add --iter-time 30 --key-file one --new-key-file two new").accepted();
+    let image = folder.get("new");
+    let second = u32::from_be_bytes(image[260..264].try_into().expect("four bytes"));
+    assert!(second >= 1000 && second < slot, "{second} for 30 ms, {slot} for 300");
+}
+
+#[test]
+fn help_in_every_form() {
+    let folder = Folder::new();
+    let tool_help = folder.line("--help").accepted().out;
+    assert_eq!(folder.line("help").accepted().out, tool_help);
+    assert_eq!(folder.line("help revoke").accepted().out, folder.line("revoke --help").accepted().out);
+    folder.line("help luksFormat").failed(64, "no command 'luksFormat'; 'mivrozh --help'");
+    folder.line("help test read").failed(64, "one command at a time");
+    assert_eq!(folder.line("-V").accepted().out, folder.line("--version").accepted().out);
+}
+
+// cryptsetup's slot numbers are one less.
+#[test]
+fn messages_and_help_say_what_cryptsetup_calls_a_slot() {
+    let folder = Folder::with_drive();
+    let added = folder.line("add --iterations 1000 --key-file one --new-key-file two --slot 4 drive").accepted();
+    assert_eq!(added.out, "key slot 4 (cryptsetup's 3) holds the new passphrase\n");
+    let revoked = folder.line("revoke --force --slot 4 drive").accepted();
+    assert_eq!(revoked.out, "key slot 4 (cryptsetup's 3) is free; 1 other passphrase stays\n");
+    assert!(folder.line("--help").accepted().out.contains("our slot 1 is their slot 0"));
+    for name in ["add", "change", "revoke", "test"] {
+        let help = folder.line(&format!("{name} --help")).accepted().out;
+        let words: Vec<&str> = help.split_whitespace().collect();
+        assert!(words.join(" ").contains("cryptsetup counts from 0: our 1 is its 0"), "{name}");
+    }
 }
 
 #[test]

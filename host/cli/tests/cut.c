@@ -3,7 +3,7 @@
  *
  * CUT_LOG   a file to which each write ("write OFFSET LENGTH") and flush ("flush") is noted
  * CUT_AT    at which write or flush, from 1, the process is killed; it is not done any more
- * CUT_LOST  which of the writes since the last flush are lost then: none, all, even, odd (counted from the flush)
+ * CUT_LOST  which of the sectors written since the last flush are lost then: none, all, even, odd (counted from the flush)
  * FULL_AT   from which write on the disk is full
  */
 #define _GNU_SOURCE
@@ -53,6 +53,15 @@ static void next_call(void) {
     if (calls == number("CUT_AT")) cut();
 }
 
+/* Remembers what stands in a sector before it is written. */
+static void keep(int file, off64_t at) {
+    if (unflushed == MOST) abort();
+    lost[unflushed].file = file;
+    lost[unflushed].at = at;
+    if (syscall(SYS_pread64, file, lost[unflushed].bytes, SECTOR, at) != SECTOR) abort();
+    unflushed++;
+}
+
 ssize_t pwrite64(int file, const void *bytes, size_t length, off64_t at) {
     char line[80];
     next_call();
@@ -63,11 +72,8 @@ ssize_t pwrite64(int file, const void *bytes, size_t length, off64_t at) {
     }
     snprintf(line, sizeof line, "write %lld %zu\n", (long long)at, length);
     note(line);
-    if (length != SECTOR || unflushed == MOST) abort();
-    lost[unflushed].file = file;
-    lost[unflushed].at = at;
-    if (syscall(SYS_pread64, file, lost[unflushed].bytes, SECTOR, at) != SECTOR) abort();
-    unflushed++;
+    if (length % SECTOR) abort();
+    for (size_t done = 0; done < length; done += SECTOR) keep(file, at + (off64_t)done);
     return syscall(SYS_pwrite64, file, bytes, length, at);
 }
 

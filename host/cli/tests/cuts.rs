@@ -112,7 +112,7 @@ fn a_cut_revocation_leaves_the_other_passphrase() {
     for slot in [2, 7, 8] {
         let folder = with_only(1);
         folder.line(&format!("add --iterations 1000 --slot {slot} --key-file one --new-key-file two drive")).accepted();
-        cut_everywhere(&folder, &format!("revoke --slot {slot} drive"), |folder, ended, what| {
+        cut_everywhere(&folder, &format!("revoke --force --slot {slot} drive"), |folder, ended, what| {
             assert!(folder.opens("one"), "{what}");
             assert!(!ended || !folder.opens("two"), "{what}");
         });
@@ -179,7 +179,7 @@ fn cryptsetup_opens_a_cut_drive() {
     }
 }
 
-// The writes of a command, sector by sector, with the flushes between them.
+// The writes of a command, with the flushes between them.
 fn writes_of(folder: &Folder, line: &str) -> Vec<String> {
     let log = folder.path("log");
     let _ = std::fs::remove_file(&log);
@@ -204,25 +204,39 @@ fn the_stages_come_in_their_order() {
     assert_eq!(writes_of(&folder, &add(2)), expected(&[area_of(2), none.clone(), zero.clone()]));
     assert_eq!(writes_of(&folder, &add(7)), expected(&[area_of(7), one.clone(), zero.clone()]));
     assert_eq!(writes_of(&folder, &add(8)), expected(&[area_of(8), one.clone(), none.clone()]));
-    assert_eq!(writes_of(&folder, "revoke --slot 7 drive"), expected(&[area_of(7), one.clone(), zero.clone()]));
+    assert_eq!(writes_of(&folder, "revoke --force --slot 7 drive"), expected(&[area_of(7), one.clone(), zero.clone()]));
     let change = "change --iterations 1000 --slot 8 --to 7 --key-file two --new-key-file three drive";
     let stages = [area_of(7), one.clone(), zero.clone(), area_of(8), one.clone(), none.clone()];
     assert_eq!(writes_of(&folder, change), expected(&stages));
-    folder.put("unit", [7; 1024]);
-    let units = vec![PAYLOAD_START + 4, PAYLOAD_START + 5];
-    assert_eq!(writes_of(&folder, "write --key-file one --first 4 --in unit drive"), expected(&[units]));
-    assert_eq!(writes_of(&folder, "revoke --slot 2 drive"), expected(&[area_of(2), none, zero]));
+    assert_eq!(writes_of(&folder, "revoke --force --slot 2 drive"), expected(&[area_of(2), none, zero]));
 }
 
-// What is there already is not written again.
+// Header and areas go sector by sector, payload units together, and all of them are on the disk before the tool says so.
 #[test]
-fn only_changed_sectors_are_written() {
+fn neighbouring_payload_units_are_written_together() {
     let folder = with_only(1);
     folder.put("units", pattern(8 * 512));
-    folder.line("write --key-file one --in units drive").accepted();
-    let mut units = pattern(8 * 512);
-    units[5 * 512] ^= 1;
-    folder.put("units", units);
-    let line = "write --key-file one --in units drive";
-    assert_eq!(writes_of(&folder, line), expected(&[vec![PAYLOAD_START + 5]]));
+    let writes = writes_of(&folder, "write --key-file one --first 4 --in units drive");
+    assert_eq!(writes, [format!("write {} {}", (PAYLOAD_START + 4) * 512, 8 * 512), "flush".into()]);
+}
+
+#[test]
+fn a_cut_write_leaves_each_unit_old_or_new() {
+    let folder = with_only(1);
+    let before = folder.get("drive");
+    folder.put("units", pattern(8 * 512));
+    let line = "write --key-file one --first 4 --in units drive";
+    folder.line(line).accepted();
+    let after = folder.get("drive");
+    for at in ["1", "2"] {
+        for lost in LOST {
+            folder.put("drive", &before);
+            let said = shimmed(&folder, line, &[("CUT_AT", at), ("CUT_LOST", lost)]);
+            assert_eq!(said.status, KILLED);
+            let cut = folder.get("drive");
+            let sectors = cut.chunks(512).zip(before.chunks(512)).zip(after.chunks(512));
+            assert!(sectors.into_iter().all(|((cut, old), new)| cut == old || cut == new), "cut at {at}, lost {lost}");
+            assert!(changed_sectors(&before, &cut).iter().all(|sector| (4..12).contains(&(sector - PAYLOAD_START))));
+        }
+    }
 }

@@ -28,7 +28,7 @@ fn with_header(at: usize, bytes: &[u8]) -> Folder {
 const COMMANDS: [&str; 6] = [
     "add --iterations 1000 --key-file one --new-key-file two drive",
     "change --iterations 1000 --key-file one --new-key-file two drive",
-    "revoke --slot 1 drive",
+    "revoke --force --slot 1 drive",
     "test --key-file one drive",
     "read --key-file one --out out drive",
     "write --key-file one --in two drive",
@@ -56,6 +56,39 @@ fn wrong_usage() {
     unchanged(&folder, "write --key-file one drive").failed(64, "--in is missing");
     unchanged(&folder, "write --key-file - --in - drive").failed(64, "standard input can be read once");
     unchanged(&folder, "add --key-file - --new-key-file - drive").failed(64, "standard input can be read once");
+}
+
+// The status tells where standard error cannot.
+#[test]
+fn standard_error_that_cannot_be_written() {
+    let folder = Folder::with_drive();
+    let full = || fs::OpenOptions::new().write(true).open("/dev/full").expect("/dev/full");
+    for (line, status) in [("test --key-file two drive", 17), ("luksFormat", 64), ("test --key-file one drive", 0)] {
+        let mut command = tool();
+        command.args(line.split_whitespace()).current_dir(folder.path("")).stderr(full());
+        assert_eq!(command.status().expect("the tool runs").code(), Some(status), "{line}");
+    }
+}
+
+// What a name would do to a terminal is not done.
+#[test]
+fn names_in_messages_are_escaped() {
+    let folder = Folder::new();
+    folder.run(["test", "--key-file", "one", "\u{1b}[2Jdrive\n"]).failed(66, "\\u{1b}[2Jdrive\\n: there is no such");
+    folder.run(["\u{7}bell"]).failed(64, "there is no command '\\u{7}bell'");
+    folder.run(["test", "--\u{1b}c", "drive"]).failed(64, "there is no option --\\u{1b}c");
+}
+
+#[test]
+fn revoke_without_a_terminal_needs_force() {
+    let folder = Folder::with_drive();
+    folder.line("add --iterations 1000 --key-file one --new-key-file two drive").accepted();
+    unchanged(&folder, "revoke --slot 2 drive").failed(64, "no terminal to ask at; use --force to revoke");
+    // What the engine refuses is not asked about.
+    unchanged(&folder, "revoke --slot 3 drive")
+        .refused(15, "key slot 3 (cryptsetup's 2) is not in use; these are: 1, 2");
+    folder.line("revoke --force --slot 2 drive").accepted();
+    unchanged(&folder, "revoke --slot 1 drive").refused(18, "add another passphrase before you revoke it");
 }
 
 #[test]
@@ -120,20 +153,6 @@ fn a_read_only_file() {
 }
 
 #[test]
-fn a_locked_file() {
-    let folder = Folder::with_drive();
-    let file = File::open(folder.path("drive")).expect("the drive");
-    file.lock().expect("a lock");
-    for line in COMMANDS {
-        unchanged(&folder, line).failed(75, "another program is using it; wait");
-    }
-    file.unlock().expect("no lock");
-    file.lock_shared().expect("a lock");
-    folder.line("test --key-file one drive").accepted();
-    unchanged(&folder, "revoke --slot 1 drive").failed(75, "another program is using it; wait");
-}
-
-#[test]
 fn a_short_file() {
     let folder = Folder::with_drive();
     let whole = folder.get("drive");
@@ -154,11 +173,17 @@ fn a_short_file() {
 
 #[test]
 fn no_drive_or_a_foreign_or_damaged_one() {
-    let cases: [(usize, &[u8], i32, &str); 6] = [
+    let cases: [(usize, &[u8], i32, &str); 7] = [
         (0, b"\x7fELF", 2, "this is not a LUKS drive"),
         (6, &[0, 2], 3, "not LUKS version 1"),
-        (40, b"cbc-essiv:sha256\0", 4, "use a tool that knows them"),
-        (72, b"sha256\0", 4, "use a tool that knows them"),
+        (
+            40,
+            b"cbc-essiv:sha256\0",
+            4,
+            "cipher 'aes', mode 'cbc-essiv:sha256', hash 'sha1' and a key of 512 bits; this",
+        ),
+        (72, b"sha256\0", 4, "cipher 'aes', mode 'xts-plain64', hash 'sha256' and a key of 512 bits; this tool knows"),
+        (8, b"\x1b[2J\0", 4, "cipher '\\u{1b}[2J', mode 'xts-plain64'"),
         (208, &[1, 2, 3, 4], 5, "restore the header from a backup"),
         (248, &[0, 0, 0, 1], 6, "restore the header from a backup"),
     ];
@@ -206,6 +231,7 @@ fn arguments_that_the_engine_refuses() {
         drive(&format!("change --slot {slot} --new-key-file two")).refused(13, "use a number from 1 to 8");
         unchanged(&folder, &format!("revoke --slot {slot} drive")).refused(13, "use a number from 1 to 8");
     }
+    unchanged(&folder, "revoke --slot 0 drive").refused(13, "cryptsetup counts from 0: its slot 0 is slot 1 here");
     for name in ["empty", "too-long"] {
         unchanged(&folder, &format!("test --key-file {name} drive")).refused(14, "1 to 512 bytes");
         drive(&format!("add --new-key-file {name}")).refused(14, "key slot 2: a passphrase must have 1 to 512 bytes");
@@ -214,13 +240,14 @@ fn arguments_that_the_engine_refuses() {
         unchanged(&folder, &format!("format --force --iterations 1000 --stripes 40 --key-file {name} drive"))
             .refused(14, "1 to 512 bytes");
     }
-    drive("add --slot 1 --new-key-file two").refused(15, "key slot 1 is in use; choose a free one, such as 2");
-    drive("change --to 1 --new-key-file two").refused(15, "key slot 1 is in use; choose a free one, such as 2");
-    drive("test --slot 2").refused(15, "key slot 2 is not in use; these are: 1");
-    unchanged(&folder, "revoke --slot 3 drive").refused(15, "key slot 3 is not in use; these are: 1");
+    let taken = "key slot 1 (cryptsetup's 0) is in use; choose a free one, such as 2 (cryptsetup's 1)";
+    drive("add --slot 1 --new-key-file two").refused(15, taken);
+    drive("change --to 1 --new-key-file two").refused(15, taken);
+    drive("test --slot 2").refused(15, "key slot 2 (cryptsetup's 1) is not in use; these are: 1");
+    unchanged(&folder, "revoke --slot 3 drive").refused(15, "key slot 3 (cryptsetup's 2) is not in use; these are: 1");
     drive("add --iterations 10 --new-key-file two").refused(10, "key slot 2: the iteration count is too small");
     drive("change --iterations 10 --new-key-file two").refused(10, "key slot 2: the iteration count is too small");
-    unchanged(&folder, "revoke --slot 1 drive").refused(18, "add another passphrase before you revoke it");
+    unchanged(&folder, "revoke --force --slot 1 drive").refused(18, "add another passphrase before you revoke it");
     folder.line("add --iterations 1000 --key-file one --new-key-file longest drive").accepted();
     assert!(folder.opens("longest"));
 }

@@ -1,15 +1,17 @@
-//! The prompts, at a pseudo-terminal: passphrases without echo, twice for a new one, questions, progress.
+//! The prompts, at a pseudo-terminal: passphrases without echo, twice for a new one, three tries, questions, progress.
 mod common;
 #[path = "common/pty.rs"]
 mod pty;
 use common::*;
-use pty::Session;
+use pty::{Session, Terminal, ICANON};
 use std::fs::File;
-use std::process::Stdio;
+use std::os::unix::fs::{FileExt, MetadataExt};
+use std::process::{Command, Stdio};
+use std::time::Duration;
 
 const ONE: &str = "passphrase one";
 const AGAIN: &str = "The same again: ";
-const CONTROL_C: &str = "\u{3}";
+const NEW: &str = "New passphrase, for key slot 2: ";
 
 fn start(folder: &Folder, line: &str) -> Session {
     Session::start(tool().args(line.split_whitespace()).current_dir(folder.path("")), None)
@@ -38,17 +40,138 @@ fn format_asks_twice() {
 }
 
 #[test]
-fn two_that_differ_change_nothing() {
+fn two_that_differ_three_times_change_nothing() {
     let folder = Folder::with_drive();
     let before = folder.get("drive");
     let mut session = start(&folder, "add --iterations 1000 --key-file one drive");
-    session.answer("New passphrase, for key slot 2: ", "a word\n");
-    session.answer(AGAIN, "another\n");
+    for _ in 0..3 {
+        session.answer(NEW, "a word\n");
+        session.answer(AGAIN, "another\n");
+    }
     let (status, shown) = session.end();
     assert_eq!(status, 65);
-    assert!(shown.contains("the two passphrases differ; nothing was changed"), "{shown}");
+    assert_eq!(shown.matches("\r\nthe two passphrases differ; try again\r\n").count(), 2, "{shown}");
+    assert!(shown.contains("mivrozh: the two passphrases differ; try again (nothing was changed)"), "{shown}");
     silent(&shown, &["a word", "another"]);
     assert_eq!(folder.get("drive"), before);
+}
+
+// An arrow, a quoted control key, a tab: what nobody could type again elsewhere.
+#[test]
+fn control_keys_in_a_new_passphrase_are_refused() {
+    let folder = Folder::with_drive();
+    let before = folder.get("drive");
+    let sentence =
+        "a control key was typed, such as an arrow or Ctrl-V; type the passphrase again without it, or use a key";
+    let mut session = start(&folder, "add --iterations 1000 --key-file one drive");
+    for keys in ["up\u{1b}[Adown\n", "quoted\u{16}\u{1}\n", "a\ttab\n"] {
+        session.answer(NEW, keys);
+    }
+    let (status, shown) = session.end();
+    assert_eq!(status, 65, "{shown}");
+    assert_eq!(shown.matches(sentence).count(), 3, "{shown}");
+    assert!(shown.contains("use a key file (nothing was changed)") && !shown.contains(AGAIN), "{shown}");
+    assert_eq!(folder.get("drive"), before);
+}
+
+#[test]
+fn a_new_passphrase_can_be_right_at_the_third_try() {
+    let folder = Folder::with_drive();
+    let mut session = start(&folder, "change --iterations 1000 --key-file one drive");
+    session.answer(NEW, "del\u{16}\u{7f}ete\n");
+    session.answer(NEW, "passphrase two\n");
+    session.answer(AGAIN, "passphrase tow\n");
+    session.answer(NEW, "passphrase two\n");
+    session.answer(AGAIN, "passphrase two\n");
+    let (status, shown) = session.end();
+    assert_eq!(status, 0, "{shown}");
+    assert!(folder.opens("two") && !folder.opens("one"));
+}
+
+#[test]
+fn a_passphrase_of_a_wrong_length_is_asked_for_again() {
+    let folder = Folder::with_drive();
+    let before = folder.get("drive");
+    let sentence = "a passphrase must have 1 to 512 bytes; try again";
+    let (empty, long) = ("\n", format!("{}\n", "x".repeat(513)));
+    for (line, prompt) in [("add --iterations 1000 --key-file one drive", NEW), ("test drive", "Passphrase: ")] {
+        let mut session = start(&folder, line);
+        for keys in [empty, &long, empty] {
+            session.answer(prompt, keys);
+        }
+        let (status, shown) = session.end();
+        assert_eq!(status, 14, "{shown}");
+        assert_eq!(shown.matches(sentence).count(), 2, "{shown}");
+        assert!(shown.contains("mivrozh: refusal 14"), "{shown}");
+    }
+    assert_eq!(folder.get("drive"), before);
+    // The longest, and the longest line that a terminal takes.
+    let longest = "x".repeat(512);
+    let mut session = start(&folder, "add --iterations 1000 --key-file one drive");
+    session.answer(NEW, &format!("{}\n", "x".repeat(4095)));
+    for prompt in [NEW, AGAIN] {
+        session.answer(prompt, &format!("{longest}\n"));
+    }
+    let (status, shown) = session.end();
+    assert_eq!(status, 0, "{shown}");
+    folder.put("longest", longest);
+    assert!(folder.opens("longest"));
+}
+
+#[test]
+fn a_mistyped_passphrase_is_asked_for_again() {
+    let folder = Folder::with_drive();
+    for (line, prompt) in [
+        ("test drive", "Passphrase: "),
+        ("read --out /dev/null --units 0 drive", "Passphrase: "),
+        ("write --in empty drive", "Passphrase: "),
+        ("add --iterations 1000 --slot 5 --new-key-file two drive", "Passphrase that the drive has: "),
+        ("change --iterations 1000 --new-key-file two drive", "Old passphrase: "),
+    ] {
+        folder.put("empty", "");
+        let mut session = start(&folder, line);
+        session.answer(prompt, "pasphrase one\n");
+        session.wait_for("no key slot opens with this passphrase; try again\r\n");
+        session.answer(prompt, "\n");
+        session.wait_for("a passphrase must have 1 to 512 bytes; try again\r\n");
+        session.answer(prompt, &format!("{ONE}\n"));
+        let (status, shown) = session.end();
+        assert_eq!(status, 0, "{shown}");
+        silent(&shown, &["pasphrase one", ONE]);
+    }
+    assert!(folder.opens("two") && !folder.opens("one"));
+}
+
+#[test]
+fn three_wrong_passphrases_are_the_end() {
+    let folder = Folder::with_drive();
+    let before = folder.get("drive");
+    for (line, sentence) in [
+        ("test drive", "no key slot opens with this passphrase"),
+        ("test --slot 1 drive", "key slot 1 does not open with this passphrase"),
+        ("change drive", "no key slot opens with this passphrase"),
+    ] {
+        let mut session = start(&folder, line);
+        for _ in 0..3 {
+            session.answer("assphrase: ", "wrong\n");
+        }
+        let (status, shown) = session.end();
+        assert_eq!(status, 17, "{shown}");
+        assert_eq!(shown.matches(&format!("\r\n{sentence}; try again\r\n")).count(), 2, "{shown}");
+        assert_eq!(shown.matches(&format!("mivrozh: refusal 17: {sentence}")).count(), 1, "{shown}");
+        silent(&shown, &["wrong"]);
+    }
+    assert_eq!(folder.get("drive"), before);
+}
+
+// A slot that is not in use does not open with another passphrase either.
+#[test]
+fn other_refusals_are_the_end_at_once() {
+    let folder = Folder::with_drive();
+    let mut session = start(&folder, "test --slot 2 drive");
+    session.answer("Passphrase: ", &format!("{ONE}\n"));
+    let (status, shown) = session.end();
+    assert_eq!(status, 15, "{shown}");
 }
 
 #[test]
@@ -90,31 +213,14 @@ fn nothing_is_asked_in_vain() {
     }
     for line in ["add drive", "change drive"] {
         let mut session = start(&folder, line);
-        session.answer(": ", "wrong\n");
+        for _ in 0..3 {
+            session.answer(": ", "wrong\n");
+            session.wait_for("opens with this passphrase; try");
+        }
         let (status, shown) = session.end();
         assert_eq!(status, 17, "{shown}");
+        assert!(!shown.contains("New passphrase"), "{shown}");
     }
-}
-
-#[test]
-fn a_typed_passphrase_can_be_mended() {
-    let folder = Folder::with_drive();
-    let mut session = start(&folder, "test drive");
-    session.answer("Passphrase: ", "all wrong\u{15}passphrase on\u{e4}\u{7f}r\u{8}e\r");
-    let (status, shown) = session.end();
-    assert_eq!(status, 0, "{shown}");
-}
-
-#[test]
-fn an_interrupt_at_the_prompt_changes_nothing() {
-    let folder = Folder::with_drive();
-    let before = folder.get("drive");
-    let mut session = start(&folder, "change drive");
-    session.answer("Old passphrase: ", &format!("half{CONTROL_C}"));
-    let (status, shown) = session.end();
-    assert_eq!(status, 65, "{shown}");
-    assert!(shown.contains("stopped at the prompt; nothing was changed"), "{shown}");
-    assert_eq!(folder.get("drive"), before);
 }
 
 #[test]
@@ -122,7 +228,8 @@ fn format_asks_before_it_overwrites_a_drive() {
     let folder = Folder::with_drive();
     let before = folder.get("drive");
     let line = format!("format --iterations 1000 --stripes {STRIPES} --key-file two drive");
-    for answer in ["no\n", "\n", "y\n", "\u{4}"] {
+    let spaces = format!("yes{}no\n", " ".repeat(1000));
+    for answer in ["no\n", "\n", "y\n", "\u{4}", &spaces] {
         let mut session = start(&folder, &line);
         session.answer("holds a LUKS drive, which will be lost. Type yes to go on: ", answer);
         let (status, shown) = session.end();
@@ -137,17 +244,49 @@ fn format_asks_before_it_overwrites_a_drive() {
     assert!(folder.opens("two") && !folder.opens("one"));
 }
 
-// A file that is made shorter under the tool's hands, by a program that keeps to no lock.
+// The tool lets nobody but root look into it.
+fn may_look(folder: &Folder) -> bool {
+    let is_root = folder.path("").metadata().is_ok_and(|own| own.uid() == 0);
+    if !is_root {
+        eprintln!("only root can look into the tool");
+    }
+    is_root
+}
+
+// What /proc says of the tool: a number after a word.
+fn number_of(session: &Session, file: &str, word: &str) -> usize {
+    let text = std::fs::read_to_string(format!("/proc/{}/{file}", session.process())).expect("a file of the tool's");
+    let number = text.lines().find_map(|line| line.strip_prefix(word)?.split_whitespace().next()?.parse().ok());
+    number.expect("a number")
+}
+
+// At a terminal that does not end a line by itself, an answer has no end.
 #[test]
-fn a_file_that_is_cut_short_while_the_tool_runs() {
+fn an_endless_answer_takes_no_memory() {
+    const MIB: usize = 1024 * 1024;
     let folder = Folder::with_drive();
-    let mut session = start(&folder, "test drive");
-    session.wait_for("Passphrase: ");
-    File::options().write(true).open(folder.path("drive")).and_then(|file| file.set_len(0)).expect("an empty file");
-    session.keys(&format!("{ONE}\n"));
+    if !may_look(&folder) {
+        return;
+    }
+    let line = format!("format --iterations 1000 --stripes {STRIPES} --key-file two drive");
+    let mut command = tool();
+    command.args(line.split_whitespace()).current_dir(folder.path(""));
+    let terminal = Terminal::new();
+    terminal.set(|settings| settings.local &= !ICANON);
+    let mut session = Session::start_at(terminal, &mut command, None);
+    session.wait_for("Type yes to go on: ");
+    let read = || number_of(&session, "io", "rchar:");
+    let memory = || number_of(&session, "status", "VmHWM:") * 1024;
+    let (read_before, memory_before) = (read(), memory());
+    session.keys(&"y".repeat(MIB));
+    while read() < read_before + MIB {
+        std::thread::sleep(Duration::from_millis(10));
+    }
+    assert!(memory() < memory_before + MIB / 2);
+    session.keys("\n");
     let (status, shown) = session.end();
-    assert_eq!(status, 74, "{shown}");
-    assert!(shown.contains("another program has made the file shorter; see to that and try again"), "{shown}");
+    assert_eq!(status, 65);
+    assert!(shown.contains("not confirmed; nothing was changed"));
 }
 
 // The data come by standard input and the passphrase from the terminal.
@@ -166,20 +305,44 @@ fn write_asks_while_data_come_by_standard_input() {
     assert_eq!(folder.get("back"), pattern(1024));
 }
 
+// Does the tool's memory have these bytes anywhere?
+fn remembers(process: u32, bytes: &[u8]) -> bool {
+    let maps = std::fs::read_to_string(format!("/proc/{process}/maps")).expect("the tool's memory");
+    let memory = File::open(format!("/proc/{process}/mem")).expect("the tool's memory");
+    maps.lines().filter(|line| line.contains(" rw") && !line.ends_with("drive")).any(|line| {
+        let (start, end) = line.split_once(' ').and_then(|(range, _)| range.split_once('-')).expect("a range");
+        let number = |text| u64::from_str_radix(text, 16).expect("an address");
+        let mut piece = vec![0; (number(end) - number(start)) as usize];
+        memory.read_exact_at(&mut piece, number(start)).expect("the tool's memory");
+        piece.windows(bytes.len()).any(|window| window == bytes)
+    })
+}
+
+// While the tool waits for the new passphrase it has forgotten the old one, what was mistyped and what was skipped.
 #[test]
-fn long_transfers_show_their_progress_at_a_terminal_only() {
-    const MIB: usize = 1024 * 1024;
+fn nothing_of_a_passphrase_stays_in_memory() {
     let folder = Folder::with_drive();
-    let file = File::create(folder.path("long")).expect("a file");
-    file.set_len((40 * MIB) as u64).expect("a file with a hole");
-    folder.line("format --iterations 1000 --stripes 1 --key-file one long").accepted();
-    folder.put("data", vec![7; 34 * MIB]);
-    let (status, shown) = start(&folder, "write --key-file one --in data long").end();
-    assert_eq!(status, 0, "{shown}");
-    assert!(shown.contains("\r32 of 34 MiB written\r34 of 34 MiB written\r\n"), "{shown:?}");
-    let (status, shown) = start(&folder, &format!("read --key-file one --units {} --out back long", 34 * 2048)).end();
-    assert_eq!(status, 0, "{shown}");
-    assert!(shown.contains("\r32 of 34 MiB read\r34 of 34 MiB read\r\n"), "{shown:?}");
-    assert!(folder.get("back") == folder.get("data"));
-    folder.line("write --key-file one --in data long").accepted();
+    if !may_look(&folder) {
+        return;
+    }
+    let mut session = start(&folder, "add --iterations 1000 drive");
+    session.answer("Passphrase that the drive has: ", "this was mistyped\n");
+    session.answer("Passphrase that the drive has: ", &format!("{ONE}\n"));
+    session.wait_for(NEW);
+    assert!(remembers(session.process(), NEW.as_bytes()), "the prompt itself is there");
+    assert!(!remembers(session.process(), b"mistyped") && !remembers(session.process(), ONE.as_bytes()));
+    session.keys("\u{4}");
+    assert_eq!(session.end().0, 65);
+
+    folder.put("ring", format!("{}{ONE}, and the end", "skipped!!".repeat(1000)));
+    let mut command = tool();
+    let line = "add --iterations 1000 --key-file - --key-file-offset 9000 --key-file-size 14 drive";
+    command.args(line.split_whitespace()).current_dir(folder.path(""));
+    let mut cat = Command::new("cat").arg(folder.path("ring")).stdout(Stdio::piped()).spawn().expect("cat runs");
+    let mut session = Session::start(&mut command, cat.stdout.take().map(Stdio::from));
+    session.wait_for(NEW);
+    cat.wait().expect("cat ends");
+    assert!(!remembers(session.process(), b"skipped!!") && !remembers(session.process(), ONE.as_bytes()));
+    session.keys("\u{4}");
+    assert_eq!(session.end().0, 65);
 }

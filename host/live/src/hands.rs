@@ -178,7 +178,7 @@ impl Hand for Tool<'_> {
 
     fn format(&self, image: &Path, bits: usize, passphrase: &str) -> Outcome<()> {
         let (file, bits) = (self.passphrase(passphrase)?, bits.to_string());
-        let options = ["--key-size", &bits, "--iterations", "1000", "--key-file", &file];
+        let options = ["--force", "--key-size", &bits, "--iterations", "1000", "--key-file", &file];
         self.accepted(&[&["format"], &options[..], &[text(image)]].concat())
     }
 
@@ -205,7 +205,7 @@ impl Hand for Tool<'_> {
     }
 
     fn revoke(&self, image: &Path, slot: u8) -> Outcome<()> {
-        self.accepted(&["revoke", "--slot", &slot.to_string(), text(image)])
+        self.accepted(&["revoke", "--force", "--slot", &slot.to_string(), text(image)])
     }
 
     fn read(&self, image: &Path, passphrase: &str, first: u64, units: u64) -> Outcome<Vec<u8>> {

@@ -1,20 +1,48 @@
 //! The calls on a drive.
 use crate::{raw, Header, Refusal, Secret};
+use std::fmt;
 
 /// A drive in an image that was lent: the header, the eight key areas and the payload.
 ///
-/// A call that is refused has changed nothing.
-#[derive(Debug)]
-pub struct Drive<'a> {
-    image: &'a mut [u8],
+/// Over `&image[..]` it can be read; over `&mut image[..]`, or an image of its own such as a `Vec<u8>`, it can be
+/// changed too. A call that is refused has changed nothing.
+///
+/// ```
+/// use mivrozh::{Drive, Refusal};
+///
+/// let image = [0; 1024];
+/// assert_eq!(Drive::over(&image[..]).check(), Err(Refusal::Magic));
+/// let mut image = [0; 1024];
+/// assert_eq!(Drive::over(&mut image[..]).revoke(1, &[]), Err(Refusal::Magic));
+/// ```
+///
+/// What can only be read cannot be changed:
+///
+/// ```compile_fail,E0599
+/// # use mivrozh::{Drive, Refusal};
+/// let image = [0; 1024];
+/// assert_eq!(Drive::over(&image[..]).revoke(1, &[]), Err(Refusal::Magic));
+/// ```
+pub struct Drive<I> {
+    image: I,
 }
 
 /// A unit of the payload: 512 bytes, counted from 0 at the payload's start. Not a sector of the image.
 #[derive(Clone, Copy, Debug, PartialEq, Eq, PartialOrd, Ord, Hash)]
 pub struct PayloadUnit(pub u64);
 
-/// A profile fixes cipher, hash and key length.
+/// A profile fixes cipher, hash and key length. Later versions may have more of them, so a match has an arm for others:
+///
+/// ```compile_fail,E0004
+/// # use mivrozh::Profile;
+/// # let profile = Profile::Key256;
+/// match profile {
+///     Profile::Key256 => {}
+///     Profile::Key512 => {}
+/// }
+/// ```
 #[derive(Clone, Copy, Debug, PartialEq, Eq)]
+#[non_exhaustive]
 pub enum Profile {
     /// aes, xts-plain64, sha1, a key of 32 bytes.
     Key256 = 1,
@@ -33,10 +61,19 @@ impl Profile {
 }
 
 /// What a format needs. Key and salt are to come from a good source of randomness.
-#[derive(Debug)]
+///
+/// Later versions may have more fields, so it is made by [`FormatInput::new`] and not by a literal:
+///
+/// ```compile_fail,E0639
+/// # use mivrozh::{FormatInput, Profile, Secret};
+/// # let (profile, key, salt, uuid) = (Profile::Key256, Secret::zeroed(32), [0; 32], "");
+/// FormatInput { profile, stripes: 4000, key: &key, salt: &salt, count: 1000, uuid };
+/// ```
+#[derive(Clone, Copy)]
+#[non_exhaustive]
 pub struct FormatInput<'a> {
     pub profile: Profile,
-    /// 1 to 4,000; other tools write 4,000.
+    /// 1 to 4,000.
     pub stripes: u32,
     pub key: &'a Secret,
     pub salt: &'a [u8; 32],
@@ -46,8 +83,29 @@ pub struct FormatInput<'a> {
     pub uuid: &'a str,
 }
 
+impl<'a> FormatInput<'a> {
+    /// A drive with 4,000 stripes, as other tools write.
+    pub fn new(profile: Profile, key: &'a Secret, salt: &'a [u8; 32], count: u32, uuid: &'a str) -> FormatInput<'a> {
+        FormatInput { profile, stripes: crate::header::MOST_STRIPES, key, salt, count, uuid }
+    }
+
+    /// Another number of stripes, 1 to 4,000.
+    pub fn stripes(self, stripes: u32) -> FormatInput<'a> {
+        FormatInput { stripes, ..self }
+    }
+}
+
 /// What a key slot is filled with. Salt and random bytes are to come from a good source of randomness.
-#[derive(Debug)]
+///
+/// Later versions may have more fields, so it is made by [`SlotInput::new`] and not by a literal:
+///
+/// ```compile_fail,E0639
+/// # use mivrozh::{Secret, SlotInput};
+/// # let (passphrase, salt) = (Secret::zeroed(1), [0; 32]);
+/// SlotInput { passphrase: &passphrase, salt: &salt, count: 1000, random: &[] };
+/// ```
+#[derive(Clone, Copy)]
+#[non_exhaustive]
 pub struct SlotInput<'a> {
     /// 1 to 512 bytes.
     pub passphrase: &'a Secret,
@@ -58,8 +116,15 @@ pub struct SlotInput<'a> {
     pub random: &'a [u8],
 }
 
+impl<'a> SlotInput<'a> {
+    pub fn new(passphrase: &'a Secret, salt: &'a [u8; 32], count: u32, random: &'a [u8]) -> SlotInput<'a> {
+        SlotInput { passphrase, salt, count, random }
+    }
+}
+
 /// What an opening gives.
 #[derive(Debug)]
+#[non_exhaustive]
 pub struct Opened {
     /// The slot that opened, 1 to 8.
     pub slot: u8,
@@ -67,19 +132,23 @@ pub struct Opened {
     pub key: Secret,
 }
 
-impl<'a> Drive<'a> {
-    /// The drive in this image.
-    pub fn over(image: &'a mut [u8]) -> Drive<'a> {
+impl<I> Drive<I> {
+    /// The drive in this image. Nobody else may change its bytes while a call runs: the engine judges the header first and
+    /// reads it again later. So a mapping of a file that other programs can write is not to be lent, but a copy.
+    pub fn over(image: I) -> Drive<I> {
         Drive { image }
     }
+}
 
+/// The calls that read.
+impl<I: AsRef<[u8]>> Drive<I> {
     pub fn image(&self) -> &[u8] {
-        self.image
+        self.image.as_ref()
     }
 
     /// What the header says, unchecked; nothing where the image is too short for one.
     pub fn header(&self) -> Option<Header> {
-        Header::of(self.image)
+        Header::of(self.image())
     }
 
     /// Checks the header as every call but format does first, and derives nothing.
@@ -92,10 +161,28 @@ impl<'a> Drive<'a> {
         }
     }
 
+    /// Opens one slot.
+    pub fn open_slot(&self, slot: u8, passphrase: &Secret) -> Result<Opened, Refusal> {
+        opened(|buffer| raw::open_slot(self.image(), slot, passphrase.expose(), buffer))
+    }
+
+    /// Opens the first slot, from 1 to 8, that this passphrase opens.
+    pub fn open(&self, passphrase: &Secret) -> Result<Opened, Refusal> {
+        opened(|buffer| raw::open(self.image(), passphrase.expose(), buffer))
+    }
+
+    /// Reads and deciphers units of the payload; the buffer has 512 bytes for each.
+    pub fn read(&self, key: &Secret, first: PayloadUnit, units: u64, buffer: &mut [u8]) -> Result<(), Refusal> {
+        answer(raw::read(self.image(), key.expose(), first.0, units, buffer))
+    }
+}
+
+/// The calls that change the image.
+impl<I: AsRef<[u8]> + AsMut<[u8]>> Drive<I> {
     /// Makes a new drive, with no passphrase yet: every key slot is free. The payload keeps its bytes.
     pub fn format(&mut self, input: &FormatInput) -> Result<(), Refusal> {
         answer(raw::format(
-            self.image,
+            self.image.as_mut(),
             input.profile as u8,
             input.stripes,
             input.key.expose(),
@@ -107,55 +194,76 @@ impl<'a> Drive<'a> {
 
     /// Puts the master key under a passphrase into a free slot.
     pub fn add(&mut self, slot: u8, key: &Secret, input: &SlotInput) -> Result<(), Refusal> {
-        let passphrase = input.passphrase.expose();
-        answer(raw::add(self.image, slot, key.expose(), passphrase, input.salt, input.count, input.random))
-    }
-
-    /// Opens one slot.
-    pub fn open_slot(&self, slot: u8, passphrase: &Secret) -> Result<Opened, Refusal> {
-        opened(|buffer| raw::open_slot(self.image, slot, passphrase.expose(), buffer))
-    }
-
-    /// Opens the first slot, from 1 to 8, that this passphrase opens.
-    pub fn open(&self, passphrase: &Secret) -> Result<Opened, Refusal> {
-        opened(|buffer| raw::open(self.image, passphrase.expose(), buffer))
+        let (image, passphrase) = (self.image.as_mut(), input.passphrase.expose());
+        answer(raw::add(image, slot, key.expose(), passphrase, input.salt, input.count, input.random))
     }
 
     /// Opens slot `from`, adds its key to the free slot `to` under the new passphrase, and revokes `from`.
     pub fn change(&mut self, from: u8, old: &Secret, to: u8, input: &SlotInput, filler: &[u8]) -> Result<(), Refusal> {
-        let (old, new) = (old.expose(), input.passphrase.expose());
-        answer(raw::change(self.image, from, old, to, new, input.salt, input.count, input.random, filler))
+        let (image, old, new) = (self.image.as_mut(), old.expose(), input.passphrase.expose());
+        answer(raw::change(image, from, old, to, new, input.salt, input.count, input.random, filler))
     }
 
     /// Frees a slot and overwrites its area with the filler, as long as [`Header::area_length`] says.
     pub fn revoke(&mut self, slot: u8, filler: &[u8]) -> Result<(), Refusal> {
-        answer(raw::revoke(self.image, slot, filler))
-    }
-
-    /// Reads and deciphers units of the payload; the buffer has 512 bytes for each.
-    pub fn read(&self, key: &Secret, first: PayloadUnit, units: u64, buffer: &mut [u8]) -> Result<(), Refusal> {
-        answer(raw::read(self.image, key.expose(), first.0, units, buffer))
+        answer(raw::revoke(self.image.as_mut(), slot, filler))
     }
 
     /// Enciphers and writes units of the payload; the buffer has 512 bytes for each.
     pub fn write(&mut self, key: &Secret, first: PayloadUnit, units: u64, buffer: &[u8]) -> Result<(), Refusal> {
-        answer(raw::write(self.image, key.expose(), first.0, units, buffer))
+        answer(raw::write(self.image.as_mut(), key.expose(), first.0, units, buffer))
     }
 }
 
+// What is printed says nothing of an image, a key, a passphrase or stripes.
+
+impl<I: AsRef<[u8]>> fmt::Debug for Drive<I> {
+    fn fmt(&self, f: &mut fmt::Formatter<'_>) -> fmt::Result {
+        f.debug_struct("Drive").field("length", &self.image().len()).finish()
+    }
+}
+
+impl fmt::Debug for FormatInput<'_> {
+    fn fmt(&self, f: &mut fmt::Formatter<'_>) -> fmt::Result {
+        let FormatInput { profile, stripes, count, uuid, .. } = self;
+        f.debug_struct("FormatInput")
+            .field("profile", profile)
+            .field("stripes", stripes)
+            .field("count", count)
+            .field("uuid", uuid)
+            .finish_non_exhaustive()
+    }
+}
+
+impl fmt::Debug for SlotInput<'_> {
+    fn fmt(&self, f: &mut fmt::Formatter<'_>) -> fmt::Result {
+        f.debug_struct("SlotInput").field("count", &self.count).finish_non_exhaustive()
+    }
+}
+
+// A number that is no refusal of this version is never taken for an acceptance. The engine is linked with the binding
+// and has no such number.
 fn answer(number: u8) -> Result<(), Refusal> {
-    match Refusal::from_number(number) {
-        None => Ok(()),
-        Some(refusal) => Err(refusal),
+    match (number, Refusal::from_number(number)) {
+        (0, _) => Ok(()),
+        (_, Some(refusal)) => Err(refusal),
+        (_, None) => panic!("the engine has no refusal {number}"),
     }
 }
 
 // Lends a buffer of 66 bytes to an opening: slot, key length and the 64 key bytes. It is wiped.
 fn opened(open: impl FnOnce(&mut [u8; 66]) -> u8) -> Result<Opened, Refusal> {
-    let mut buffer = [0; 66];
-    let said = answer(open(&mut buffer));
-    let [slot, length, key @ ..] = &buffer;
-    let found = said.map(|()| Opened { slot: *slot, key: Secret::from(&key[..usize::from(*length)]) });
-    raw::wipe(&mut buffer);
-    found
+    let mut buffer = Secret::zeroed(66);
+    answer(open(buffer.expose_mut().try_into().expect("66 bytes")))?;
+    let [slot, length, ref key @ ..] = *buffer.expose() else { unreachable!("66 bytes") };
+    Ok(Opened { slot, key: Secret::from(&key[..usize::from(length)]) })
+}
+
+#[cfg(test)]
+mod tests {
+    #[test]
+    #[should_panic(expected = "no refusal 21")]
+    fn an_unknown_number_is_no_acceptance() {
+        let _ = super::answer(21);
+    }
 }

@@ -17,6 +17,7 @@ const RECORD: usize = 48;
 
 /// What a header says, as it stands there. Nothing is checked here: each call of the engine checks the header first.
 #[derive(Clone, Copy, Debug, PartialEq, Eq)]
+#[non_exhaustive]
 pub struct Header {
     /// Where the payload starts, in sectors of the image.
     pub payload_start: u32,
@@ -27,6 +28,7 @@ pub struct Header {
 
 /// The record of one key slot.
 #[derive(Clone, Copy, Debug, Default, PartialEq, Eq)]
+#[non_exhaustive]
 pub struct Slot {
     pub enabled: bool,
     /// Iterations of the derivation.
@@ -82,6 +84,25 @@ impl Header {
             }
             _ => 0,
         }
+    }
+}
+
+/// The names in a header as they stand there, each up to its first zero byte, and the length of the master key.
+#[derive(Clone, Copy, Debug, PartialEq, Eq)]
+#[non_exhaustive]
+pub struct Names<'a> {
+    pub cipher: &'a [u8],
+    pub mode: &'a [u8],
+    pub hash: &'a [u8],
+    pub key_bytes: u32,
+}
+
+impl Names<'_> {
+    /// Reads the names of an image that is long enough to hold a header.
+    pub fn of(image: &[u8]) -> Option<Names<'_>> {
+        let bytes = image.get(..HEADER)?;
+        let text = |at: usize| bytes[at..at + 32].split(|&byte| byte == 0).next().unwrap_or_default();
+        Some(Names { cipher: text(8), mode: text(40), hash: text(72), key_bytes: number_at(bytes, 108) })
     }
 }
 

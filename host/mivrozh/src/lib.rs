@@ -1,7 +1,8 @@
 //! LUKS version 1 drives: a safe binding to the proved engine.
 //!
 //! A [`Drive`] stands over an image that its user lends; its methods are the engine's calls. Salts, random bytes and
-//! filler are the caller's. Keys and passphrases are [`Secret`]s.
+//! filler are the caller's. Keys and passphrases are [`Secret`]s, and [`lock_stack`] keeps the engine's own frames in
+//! memory.
 //!
 //! ```
 //! use mivrozh::{Drive, FormatInput, PayloadUnit, Profile, Secret, SlotInput};
@@ -9,10 +10,10 @@
 //! let mut image = vec![0; 64 * 1024];
 //! let (key, passphrase) = (Secret::from(vec![7; 64]), Secret::from(&b"open sesame"[..]));
 //! let (salt, random) = ([9; 32], []); // From a good source of randomness in earnest.
-//! let mut drive = Drive::over(&mut image);
+//! let mut drive = Drive::over(&mut image[..]);
 //! let uuid = "6a2b1f0e-3c4d-4e5f-8a9b-0c1d2e3f4a5b";
-//! drive.format(&FormatInput { profile: Profile::Key512, stripes: 1, key: &key, salt: &salt, count: 1000, uuid })?;
-//! drive.add(1, &key, &SlotInput { passphrase: &passphrase, salt: &salt, count: 1000, random: &random })?;
+//! drive.format(&FormatInput::new(Profile::Key512, &key, &salt, 1000, uuid).stripes(1))?;
+//! drive.add(1, &key, &SlotInput::new(&passphrase, &salt, 1000, &random))?;
 //! let opened = drive.open(&passphrase)?;
 //! assert_eq!(opened.slot, 1);
 //! drive.write(&opened.key, PayloadUnit(0), 1, &[1; 512])?;
@@ -23,12 +24,16 @@
 mod drive;
 pub mod header;
 #[allow(unsafe_code)]
+mod memory;
+mod platform;
+#[allow(unsafe_code)]
 pub mod raw;
 mod refusal;
 mod secret;
 
 pub use drive::{Drive, FormatInput, Opened, PayloadUnit, Profile, SlotInput};
 pub use header::Header;
+pub use memory::{lock_stack, LOCKED_STACK};
 pub use refusal::Refusal;
 pub use secret::Secret;
 

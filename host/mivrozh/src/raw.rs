@@ -1,4 +1,5 @@
-//! The engine's eight C functions as safe functions, and the wiping of memory. All unsafe code of the binding is here.
+//! The engine's eight C functions as safe functions, and the wiping of memory. The unsafe code of the binding is here
+//! and in the module `memory`.
 //!
 //! Each function mirrors the one of `include/mivrozh.h` that it is named after: it returns 0, or the number of the
 //! refusal. After each call the stack that it used is wiped.
@@ -83,9 +84,9 @@ extern "C" {
     ) -> u8;
 }
 
-// Every call below is sound for the same reason. The pointers come from references that live through the call, each with
-// the length that goes with it, so they are valid to read, and those from `&mut` to write. Rust's borrows keep what is
-// written apart from all else. The engine keeps no pointer, has no global state, and accepts every value of its
+// Every call below is sound for the same reason. The pointers come from references that live through the call, each
+// with the length that goes with it, so they are valid to read, and those from `&mut` to write. Rust's borrows keep
+// what is written apart from all else. The engine keeps no pointer, has no global state, and accepts every value of its
 // arguments: it is proved without a precondition.
 
 pub fn format(image: &mut [u8], profile: u8, stripes: u32, key: &[u8], salt: &[u8; 32], count: u32, uuid: &[u8]) -> u8 {
@@ -217,8 +218,9 @@ pub fn write(image: &mut [u8], key: &[u8], first: u64, units: u64, buffer: &[u8]
     })
 }
 
-/// A bound on the stack of a call. Measured by `tests/stack.rs` at 4,000 stripes and a key of 64 bytes, in bytes: format
-/// 4,947, add 6,131, open by number 6,627, open 6,723, change 6,835, revoke 682, read 5,715, write 5,731 (optimised build).
+/// A bound on the stack of a call. Measured by `tests/stack.rs` at 4,000 stripes and a key of 64 bytes, in bytes:
+/// format 4,947, add 6,131, open by number 6,627, open 6,723, change 6,835, revoke 682, read 5,715, write 5,731
+/// (optimised build).
 pub const MOST_STACK: usize = 8 * 1024;
 
 /// How many bytes of stack are wiped after each call.

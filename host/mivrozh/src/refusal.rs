@@ -1,8 +1,10 @@
 //! Why a call was refused: one name, one number and one sentence for each reason.
 use std::fmt;
 
-/// The reason of a refusal. The first check that fails gives it; a refused call has changed nothing.
+/// The reason of a refusal. The first check that fails gives it; a refused call has changed nothing. Later versions may
+/// have more of them, so a match has an arm for others.
 #[derive(Clone, Copy, Debug, PartialEq, Eq, Hash)]
+#[non_exhaustive]
 #[repr(u8)]
 pub enum Refusal {
     ImageSize = 1,
@@ -29,7 +31,7 @@ pub enum Refusal {
 
 impl Refusal {
     /// Every reason, in the order of the numbers.
-    pub const ALL: [Refusal; 20] = [
+    pub const ALL: &'static [Refusal] = &[
         Refusal::ImageSize,
         Refusal::Magic,
         Refusal::Version,
@@ -52,15 +54,15 @@ impl Refusal {
         Refusal::BadBuffer,
     ];
 
-    /// The number, 1 to 20, that the engine returns for this reason.
+    /// The number, from 1 on, that the engine returns for this reason.
     pub fn number(self) -> u8 {
         self as u8
     }
 
-    /// What the engine's number means: nothing where it is 0, accepted.
+    /// The refusal with this number; nothing where this version has none. 0 is none: the engine returns it for a call
+    /// that was accepted.
     pub fn from_number(number: u8) -> Option<Refusal> {
-        let place = usize::from(number).checked_sub(1)?;
-        Some(*Refusal::ALL.get(place).expect("the engine has 20 refusals"))
+        Refusal::ALL.get(usize::from(number).checked_sub(1)?).copied()
     }
 
     /// What is wrong, and what to do about it.
@@ -92,7 +94,9 @@ impl Refusal {
             Refusal::ShortImage => {
                 "the image is too short for the header and the eight key areas; make it longer, or use fewer stripes"
             }
-            Refusal::BadSlot => "there is no such key slot; use a number from 1 to 8",
+            Refusal::BadSlot => {
+                "there is no such key slot; use a number from 1 to 8 (cryptsetup counts from 0: its slot 0 is slot 1 here)"
+            }
             Refusal::BadPassphrase => "a passphrase must have 1 to 512 bytes; use one of that length",
             Refusal::WrongState => {
                 "the key slot is in the wrong state: a new passphrase needs a free slot, every other call one that is in \

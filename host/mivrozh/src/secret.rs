@@ -1,66 +1,66 @@
-//! Keys and passphrases: bytes that are wiped when they are dropped and that Debug does not print.
+//! Keys and passphrases: bytes in memory of their own, wiped when they are dropped, that Debug does not print.
+use crate::memory::Pages;
 use crate::raw;
 use std::fmt;
 
-/// Bytes that only their owner sees. They are overwritten when the value is dropped. They are not copied: there is no
-/// `Clone`, and no way to make them longer.
+/// Bytes that only their owner sees. They stand in whole pages of memory that are locked where the system allows it, so
+/// that they do not reach the swap, and left out of core dumps. They are overwritten when the value is dropped. They
+/// are not copied: there is no `Clone`, and no way to make them longer.
 pub struct Secret {
-    bytes: Vec<u8>,
+    pages: Pages,
+    length: usize,
 }
 
 impl Secret {
     /// `length` zero bytes, to be filled in place through [`Secret::expose_mut`].
     pub fn zeroed(length: usize) -> Secret {
-        Secret { bytes: vec![0; length] }
+        Secret { pages: Pages::zeroed(length), length }
     }
 
     /// The bytes themselves. Copies of them are not wiped.
     pub fn expose(&self) -> &[u8] {
-        &self.bytes
+        &self.pages.bytes()[..self.length]
     }
 
     /// The bytes, to be filled in place.
     pub fn expose_mut(&mut self) -> &mut [u8] {
-        &mut self.bytes
+        &mut self.pages.bytes_mut()[..self.length]
     }
 
     /// Keeps the first `length` bytes and wipes the others.
     pub fn truncate(&mut self, length: usize) {
-        if length < self.bytes.len() {
-            raw::wipe(&mut self.bytes[length..]);
-            self.bytes.truncate(length);
+        if length < self.length {
+            raw::wipe(&mut self.expose_mut()[length..]);
+            self.length = length;
         }
     }
 
     pub fn len(&self) -> usize {
-        self.bytes.len()
+        self.length
     }
 
     pub fn is_empty(&self) -> bool {
-        self.bytes.is_empty()
+        self.length == 0
     }
 }
 
 impl From<Vec<u8>> for Secret {
-    /// Takes the bytes over, without a copy.
-    fn from(bytes: Vec<u8>) -> Secret {
-        Secret { bytes }
+    /// Copies the bytes, and wipes the vector with its spare capacity.
+    fn from(mut bytes: Vec<u8>) -> Secret {
+        let secret = Secret::from(&bytes[..]);
+        // Growing within the capacity allocates nothing.
+        bytes.resize(bytes.capacity(), 0);
+        raw::wipe(&mut bytes);
+        secret
     }
 }
 
 impl From<&[u8]> for Secret {
     /// Copies the bytes; the caller still has its own to wipe.
     fn from(bytes: &[u8]) -> Secret {
-        Secret { bytes: bytes.to_vec() }
-    }
-}
-
-impl Drop for Secret {
-    fn drop(&mut self) {
-        // The spare capacity of a vector that was taken over is wiped too: growing within it allocates nothing.
-        let capacity = self.bytes.capacity();
-        self.bytes.resize(capacity, 0);
-        raw::wipe(&mut self.bytes);
+        let mut secret = Secret::zeroed(bytes.len());
+        secret.expose_mut().copy_from_slice(bytes);
+        secret
     }
 }
 

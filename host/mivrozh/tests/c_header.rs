@@ -1,4 +1,5 @@
-//! The C header: a program that uses it compiles without a warning, as C and as C++, runs, and has no error of memory.
+//! The C header: a program that uses it compiles without a warning, as C and as C++, runs, has no error of memory and
+//! leaves no secret behind.
 use std::path::{Path, PathBuf};
 use std::process::{Command, Output};
 
@@ -15,15 +16,24 @@ fn run(command: &mut Command) -> Output {
 
 // Compiles a program against header and archive.
 fn compile(compiler: &str, source: &Path, name: &str) -> PathBuf {
+    compile_with(compiler, &[], &[source], name)
+}
+
+fn compile_with(compiler: &str, options: &[&str], sources: &[&Path], name: &str) -> PathBuf {
     let program = Path::new(env!("CARGO_TARGET_TMPDIR")).join(name);
     run(Command::new(compiler)
         .args(["-g", "-Wall", "-Wextra", "-Werror", "-pedantic", "-I"])
         .arg(host().join("include"))
-        .arg(source)
+        .args(options)
+        .args(sources)
         .arg(host().join("../target/staticlib/libcapi.a"))
         .arg("-o")
         .arg(&program));
     program
+}
+
+fn of_tests(name: &str) -> PathBuf {
+    Path::new(env!("CARGO_MANIFEST_DIR")).join("tests").join(name)
 }
 
 #[test]
@@ -33,11 +43,45 @@ fn the_example_runs() {
     assert!(said.ends_with("all as expected\n"), "{said}");
 }
 
+// Memory that it gives back is zeros, and no piece of the key stays on its stack. It is linked with -z now: else the
+// dynamic linker saves registers, with what the C library's functions left in them, to the stack.
+#[test]
+fn the_example_wipes_what_it_had() {
+    let (example, looking) = (host().join("c/example.c"), of_tests("looking.c"));
+    for level in ["-O0", "-O2"] {
+        let wraps = ["-Wl,-z,now", "-Wl,--wrap=free", "-Wl,--wrap=printf", "-Wl,--wrap=mivrozh_format", level];
+        let program = compile_with("gcc", &wraps, &[&example, &looking], &format!("looking{level}"));
+        let said = String::from_utf8(run(&mut Command::new(program)).stdout).expect("text");
+        assert!(said.ends_with("all as expected\n"), "{level}: {said}");
+    }
+}
+
+#[test]
+fn the_stack_is_wiped_for_c() {
+    for level in ["-O0", "-O2"] {
+        let program = compile_with("gcc", &["-pthread", level], &[&of_tests("stack.c")], &format!("stack{level}"));
+        let said = String::from_utf8(run(&mut Command::new(program)).stdout).expect("text");
+        assert!(said.ends_with("all as expected\n"), "{level}: {said}");
+    }
+}
+
+#[test]
+fn the_header_is_for_every_standard_of_c() {
+    for standard in ["-std=c99", "-std=c11", "-std=c17"] {
+        let program = compile_with("gcc", &[standard], &[&host().join("c/example.c")], &format!("example{standard}"));
+        run(&mut Command::new(program));
+    }
+}
+
 #[test]
 fn the_header_is_for_cpp_too() {
     let source = Path::new(env!("CARGO_TARGET_TMPDIR")).join("header.cpp");
     let text = "#include <mivrozh.h>\n\
-        int main() { uint8_t opened[66]; return mivrozh_open(nullptr, 0, nullptr, 0, opened) == 1 ? 0 : 1; }\n";
+        int main() {\n\
+            uint8_t opened[66], number = mivrozh_open(nullptr, 0, nullptr, 0, opened);\n\
+            mivrozh_wipe_stack();\n\
+            return number == 1 ? 0 : 1;\n\
+        }\n";
     std::fs::write(&source, text).expect("a file in the target folder");
     run(&mut Command::new(compile("g++", &source, "header-cpp")));
 }

@@ -16,11 +16,11 @@ fn passphrase(text: &str) -> Secret {
 }
 
 fn format_input<'a>(profile: Profile, key: &'a Secret) -> FormatInput<'a> {
-    FormatInput { profile, stripes: STRIPES, key, salt: &SALT, count: COUNT, uuid: UUID }
+    FormatInput::new(profile, key, &SALT, COUNT, UUID).stripes(STRIPES)
 }
 
 fn slot_input<'a>(passphrase: &'a Secret, random: &'a [u8]) -> SlotInput<'a> {
-    SlotInput { passphrase, salt: &SALT, count: COUNT, random }
+    SlotInput::new(passphrase, &SALT, COUNT, random)
 }
 
 // An image that holds a drive with the passphrase "one" in slot 1.
@@ -72,7 +72,7 @@ fn refusals() {
         image[at..at + bytes.len()].copy_from_slice(bytes);
         Drive::over(&mut image).open(&one).err()
     };
-    assert_eq!(Drive::over(&mut []).check(), Err(Refusal::ImageSize));
+    assert_eq!(Drive::over([]).check(), Err(Refusal::ImageSize));
     assert_eq!(damaged(0, b"S"), Some(Refusal::Magic));
     assert_eq!(damaged(7, &[2]), Some(Refusal::Version));
     assert_eq!(damaged(72, b"md5\0"), Some(Refusal::NoProfile));
@@ -83,11 +83,13 @@ fn refusals() {
     let before = image.clone();
     let mut drive = Drive::over(&mut image);
     let input = format_input(Profile::Key512, &key);
-    assert_eq!(drive.format(&FormatInput { stripes: 0, ..input }), Err(Refusal::BadStripes));
-    assert_eq!(drive.format(&FormatInput { key: &short, ..input }), Err(Refusal::KeyLength));
-    assert_eq!(drive.format(&FormatInput { count: 999, ..input }), Err(Refusal::LowCount));
-    assert_eq!(drive.format(&FormatInput { uuid: "none", ..input }), Err(Refusal::BadUuid));
-    assert_eq!(drive.format(&FormatInput { stripes: 4000, ..input }), Err(Refusal::ShortImage));
+    let other = |key, count, uuid| FormatInput::new(Profile::Key512, key, &SALT, count, uuid).stripes(STRIPES);
+    assert_eq!(drive.format(&input.stripes(0)), Err(Refusal::BadStripes));
+    assert_eq!(drive.format(&other(&short, COUNT, UUID)), Err(Refusal::KeyLength));
+    assert_eq!(drive.format(&other(&key, 999, UUID)), Err(Refusal::LowCount));
+    assert_eq!(drive.format(&other(&key, COUNT, "none")), Err(Refusal::BadUuid));
+    let all_stripes = FormatInput::new(Profile::Key512, &key, &SALT, COUNT, UUID);
+    assert_eq!((all_stripes.stripes, drive.format(&all_stripes)), (4000, Err(Refusal::ShortImage)));
     assert_eq!(drive.open_slot(9, &one).err(), Some(Refusal::BadSlot));
     assert_eq!(drive.open(&Secret::zeroed(513)).err(), Some(Refusal::BadPassphrase));
     assert_eq!(drive.open_slot(2, &one).err(), Some(Refusal::WrongState));
@@ -105,19 +107,46 @@ fn each_refusal_has_its_number_and_a_sentence_of_its_own() {
     let mut sentences = std::collections::HashSet::new();
     for (number, refusal) in (1..=20).zip(Refusal::ALL) {
         assert_eq!(refusal.number(), number);
-        assert_eq!(Refusal::from_number(number), Some(refusal));
+        assert_eq!(Refusal::from_number(number), Some(*refusal));
         let sentence = refusal.to_string();
         assert!(!sentence.contains("  ") && !sentence.ends_with('.'), "{sentence}");
         assert!(sentences.insert(sentence));
     }
-    assert_eq!(Refusal::from_number(0), None);
-    assert_eq!(sentences.len(), 20);
+    assert_eq!((sentences.len(), Refusal::ALL.len()), (20, 20));
+    assert_eq!([0, 21, 255].map(Refusal::from_number), [None; 3]);
+}
+
+// An image that is only lent for reading is read by every call that changes nothing, and an owned one is changed.
+#[test]
+fn a_drive_stands_over_any_bytes() {
+    let (mut image, key) = (image(Profile::Key256), key(Profile::Key256));
+    let plain = [4; 512];
+    Drive::over(&mut image).write(&key, PayloadUnit(0), 1, &plain).expect("a unit");
+    let lent = Drive::over(&image[..]);
+    assert_eq!(lent.check(), Ok(()));
+    assert_eq!(lent.header().expect("a header").enabled_slots().collect::<Vec<_>>(), [1]);
+    assert_eq!(lent.open(&passphrase("one")).expect("slot 1 opens").slot, 1);
+    let opened = lent.open_slot(1, &passphrase("one")).expect("slot 1 opens");
+    let mut back = [0; 512];
+    lent.read(&opened.key, PayloadUnit(0), 1, &mut back).expect("a unit");
+    assert_eq!(back, plain);
+    assert_eq!(lent.image(), image);
+
+    let mut owned = Drive::over(image.clone());
+    owned.write(&key, PayloadUnit(0), 1, &[5; 512]).expect("a unit");
+    assert_ne!(owned.image(), image);
 }
 
 #[test]
-fn nothing_that_is_printed_holds_a_key() {
-    let opened = Drive::over(&mut image(Profile::Key256)).open(&passphrase("one")).expect("slot 1 opens");
+fn nothing_that_is_printed_holds_a_key_an_image_or_stripes() {
+    let mut image = image(Profile::Key256);
+    let drive = Drive::over(&mut image);
+    assert_eq!(format!("{drive:?}"), "Drive { length: 35840 }");
+    let opened = drive.open(&passphrase("one")).expect("slot 1 opens");
     assert_eq!(format!("{opened:?}"), "Opened { slot: 1, key: Secret(..) }");
-    let key = key(Profile::Key256);
-    assert!(format!("{:?}", format_input(Profile::Key256, &key)).contains("key: Secret(..)"));
+    let (key, one) = (key(Profile::Key256), passphrase("one"));
+    let input = format_input(Profile::Key256, &key);
+    let said = format!("FormatInput {{ profile: Key256, stripes: 9, count: 1000, uuid: {UUID:?}, .. }}");
+    assert_eq!(format!("{input:?}"), said);
+    assert_eq!(format!("{:?}", slot_input(&one, &[5; 256])), "SlotInput { count: 1000, .. }");
 }

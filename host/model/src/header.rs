@@ -181,7 +181,7 @@ impl Slot {
 
 /// Check 1 refuses.
 pub fn bad_length(image_len: usize) -> bool {
-    image_len < 2 * SECTOR || image_len % SECTOR != 0
+    image_len < 2 * SECTOR || !image_len.is_multiple_of(SECTOR)
 }
 
 /// A text field's bytes before its first zero byte.

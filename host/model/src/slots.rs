@@ -6,10 +6,13 @@ use crate::xts::{self, Way, SECTOR};
 use crate::{sha1, splitter};
 use std::collections::HashMap;
 
+/// What a derivation starts from: password, salt, count and length.
+type Start = (Vec<u8>, [u8; 32], u32, usize);
+
 /// PBKDF2 with its results remembered, since one passphrase or key is tried again and again.
 #[derive(Default)]
 pub struct Derivations {
-    known: HashMap<(Vec<u8>, [u8; 32], u32, usize), Vec<u8>>,
+    known: HashMap<Start, Vec<u8>>,
 }
 
 impl Derivations {
@@ -48,6 +51,7 @@ impl Derivations {
     }
 
     /// Splits the key into slot k's area, enciphers it there and enables the record.
+    #[allow(clippy::too_many_arguments)]
     pub fn fill(
         &mut self,
         image: &mut [u8],

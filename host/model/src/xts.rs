@@ -20,7 +20,7 @@ pub fn double(tweak: [u8; 16]) -> [u8; 16] {
 
 /// One data unit, in place. Its length is a multiple of 16.
 fn unit(blocks: &Aes, mut tweak: [u8; 16], bytes: &mut [u8], way: Way) {
-    assert!(bytes.len() % 16 == 0, "a data unit is whole blocks");
+    assert!(bytes.len().is_multiple_of(16), "a data unit is whole blocks");
     for block in bytes.chunks_exact_mut(16) {
         let masked = std::array::from_fn(|i| block[i] ^ tweak[i]);
         let worked = if way == Way::Encipher { blocks.encrypt(masked) } else { blocks.decrypt(masked) };

@@ -79,7 +79,7 @@ impl Folder {
             folder.put(name, format!("passphrase {name}"));
         }
         folder.put("drive", pattern(LENGTH));
-        folder.line(&format!("format --iterations 1000 --stripes {STRIPES} --key-file one drive")).accepted();
+        folder.line(&format!("format --force --iterations 1000 --stripes {STRIPES} --key-file one drive")).accepted();
         folder
     }
 

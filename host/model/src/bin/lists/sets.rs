@@ -88,26 +88,26 @@ pub fn run(both: &mut Both, random: &mut Random) -> Result<[usize; 8], String> {
 pub fn ways(both: &mut Both, random: &mut Random) -> Result<usize, String> {
     let bases = [32, 64].map(|length| base(both, random, length));
     let mut made = 0;
-    for kind in 1..8 {
+    for (kind, call_name) in KINDS.iter().enumerate().take(8).skip(1) {
         for (i, (number, name, damage)) in damage::WAYS.iter().enumerate() {
             let mut maker = Maker { random, base: &bases[i % 2], set: &[] };
             let (mut image, call) = maker.case(kind);
             damage(random, &mut image);
             let said = both.run(&mut image, &call).map_err(|e| format!("{name}: {e}"))?;
             if said != *number {
-                return Err(format!("{}: {name} is refused by {number}, both say {said}", KINDS[kind]));
+                return Err(format!("{call_name}: {name} is refused by {number}, both say {said}"));
             }
             made += 1;
         }
     }
-    for kind in 1..6 {
+    for (kind, call_name) in KINDS.iter().enumerate().take(6).skip(1) {
         for (i, (name, change)) in damage::FAIR.iter().enumerate() {
             let mut maker = Maker { random, base: &bases[i % 2], set: &[] };
             let (mut image, call) = maker.case(kind);
             change(random, &mut image);
             let said = both.run(&mut image, &call).map_err(|e| format!("{name}: {e}"))?;
             if said != 0 {
-                return Err(format!("{}: {name} is no damage, both say {said}", KINDS[kind]));
+                return Err(format!("{call_name}: {name} is no damage, both say {said}"));
             }
             made += 1;
         }

@@ -208,7 +208,8 @@ fn put_fours(
 
 // The blocks that are left, one by one, where the first done stand in out.
 fn put_rest(out: &mut [u8], inner: [u32; 5], outer: [u32; 5], salt: &[u8], count: u32, done: usize)
-    requires { ⌜ (1 ≤ count) × (length (now salt) < 2 ^ 60) × (length (now out) ≤ 20 * (2 ^ 32 - 1)) × (done ≤ pieceCount 20 (length (now out))) × Holds inner outer (now salt) count done (now out) ⌝ }
+    requires { ⌜ (1 ≤ count) × (length (now salt) < 2 ^ 60) × (length (now out) ≤ 20 * (2 ^ 32 - 1)) × (done ≤ pieceCount 20 (length (now out)))
+        × Holds inner outer (now salt) count done (now out) ⌝ }
     ensures { λ _. ⌜ Holds inner outer (now (salt .entry)) count (pieceCount 20 (length (now (out .entry)))) (now (out .exit)) ⌝ }
 {
     let n = out.len();

@@ -9,8 +9,7 @@ const MEASURED: Duration = Duration::from_millis(60);
 const SLOT: u8 = 1;
 
 /// The count of a key's checksum where a slot has this one: an eighth, but not less than is accepted. It protects no
-/// passphrase, since a key cannot be guessed, and costs at each opening; cryptsetup gives it an eighth of a second and a slot
-/// a whole one or two.
+/// passphrase, since a key cannot be guessed, and costs at each opening; cryptsetup, too, gives it a small share of a slot's.
 pub fn checksum_count(slot_count: u32) -> u32 {
     match slot_count {
         too_small if too_small < LEAST_COUNT => too_small,

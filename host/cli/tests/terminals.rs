@@ -61,6 +61,15 @@ fn opens(mut session: Session) -> String {
     shown
 }
 
+// The shell reads a line, which is shown, and continues the tool, which asks a second time.
+fn asks_again(mut session: Session) {
+    session.keys("shown\n");
+    session.wait_for("read <shown>");
+    session.wait_for(PROMPT);
+    let shown = opens(session);
+    assert_eq!(shown.matches(PROMPT).count(), 2, "{shown}");
+}
+
 #[test]
 fn a_signal_from_outside_leaves_the_terminal_as_it_was() {
     let folder = Folder::with_drive();
@@ -167,11 +176,7 @@ fn a_stop_and_its_continuation() {
     session.answer(PROMPT, &format!("half{CONTROL_Z}"));
     assert_eq!(number(&mut session, "stopped "), 128 + SIGTSTP);
     assert!(session.echoes(), "the terminal of a stopped tool is not as it was");
-    session.keys("shown\n");
-    session.wait_for("read <shown>");
-    session.wait_for(PROMPT);
-    let shown = opens(session);
-    assert_eq!(shown.matches(PROMPT).count(), 2, "{shown}");
+    asks_again(session);
 }
 
 // In the background the shell's settings are not touched; the prompt comes once the tool is in the foreground.
@@ -186,11 +191,7 @@ fn a_stopped_tool_in_the_background() {
     session.answer(PROMPT, CONTROL_Z);
     assert_eq!(number(&mut session, "waits "), 0);
     assert!(session.echoes());
-    session.keys("shown\n");
-    session.wait_for("read <shown>");
-    session.wait_for(PROMPT);
-    let shown = opens(session);
-    assert_eq!(shown.matches(PROMPT).count(), 2, "{shown}");
+    asks_again(session);
 }
 
 // The settings that a shell has for itself are not those that come back at the end.

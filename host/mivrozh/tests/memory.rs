@@ -1,20 +1,14 @@
 //! Where secrets stand: in memory that is locked and left out of core dumps, as the kernel says it of this process. A
 //! lock that is refused is no failure.
-use mivrozh::{Drive, FormatInput, Profile, Secret, SlotInput};
+mod limits;
+use mivrozh::{Drive, FormatInput, Opened, Profile, Secret, SlotInput};
 use std::sync::Mutex;
 
 extern "C" {
     fn mlock(address: *const u8, length: usize) -> i32;
     fn munlock(address: *const u8, length: usize) -> i32;
-    fn getrlimit(resource: i32, limit: *mut [u64; 2]) -> i32;
-    fn setrlimit(resource: i32, limit: *const [u64; 2]) -> i32;
-    fn syscall(number: i64, ...) -> i64;
 }
 
-const RLIMIT_MEMLOCK: i32 = 8;
-const CAPGET: i64 = 125;
-const CAPSET: i64 = 126;
-const CAP_IPC_LOCK: u32 = 14;
 const PAGE: usize = 4096;
 
 // The limit belongs to the process, so the tests run one after the other.
@@ -52,40 +46,27 @@ fn may_lock(length: usize) -> bool {
     locked
 }
 
-fn limit() -> [u64; 2] {
-    let mut limit = [0; 2];
-    // SAFETY: `struct rlimit` has two numbers of 64 bits.
-    assert_eq!(unsafe { getrlimit(RLIMIT_MEMLOCK, &mut limit) }, 0);
-    limit
-}
-
 // In a thread that has no right to lock beyond the limit, and with a limit of so many bytes.
 fn with_limit(bytes: u64, work: impl FnOnce() + Send) {
-    let before = limit();
+    let before = limits::limit();
     let thread = || {
-        let (header, mut sets) = ([0x2008_0522u32, 0], [0u32; 6]);
-        // SAFETY: version 3 of the capabilities has a header of two numbers and two sets of three. A thread's own
-        // capabilities are changed, and no other's.
-        unsafe {
-            assert_eq!(syscall(CAPGET, header.as_ptr(), sets.as_mut_ptr()), 0);
-            sets[0] &= !(1 << CAP_IPC_LOCK);
-            assert_eq!(syscall(CAPSET, header.as_ptr(), sets.as_ptr()), 0);
-            assert_eq!(setrlimit(RLIMIT_MEMLOCK, &[bytes.min(before[1]), before[1]]), 0);
-        }
+        limits::hold_to(bytes);
         work();
     };
     std::thread::scope(|scope| scope.spawn(thread).join().expect("the thread ends well"));
-    // SAFETY: as above.
-    assert_eq!(unsafe { setrlimit(RLIMIT_MEMLOCK, &before) }, 0);
+    limits::set_limit(before);
 }
 
-fn opens_a_drive() {
+// What an opening of a new drive gives.
+fn opened() -> Opened {
     let mut image = vec![0; 64 * 1024];
     let (key, one, salt) = (Secret::from(vec![7; 64]), Secret::from(&b"one"[..]), [9; 32]);
     let mut drive = Drive::over(&mut image[..]);
     drive.format(&FormatInput::new(Profile::Key512, &key, &salt, 1000, &"u".repeat(36)).stripes(1)).expect("a drive");
     drive.add(1, &key, &SlotInput::new(&one, &salt, 1000, &[])).expect("a passphrase");
-    assert_eq!(drive.open(&one).expect("slot 1 opens").key.expose(), key.expose());
+    let opened = drive.open(&one).expect("slot 1 opens");
+    assert_eq!(opened.key.expose(), key.expose());
+    opened
 }
 
 #[test]
@@ -111,12 +92,7 @@ fn a_secret_is_locked_and_left_out_of_dumps() {
 #[test]
 fn an_opened_key_is_locked_and_left_out_of_dumps() {
     let _alone = ALONE.lock().unwrap_or_else(|poisoned| poisoned.into_inner());
-    let mut image = vec![0; 64 * 1024];
-    let (key, one, salt) = (Secret::from(vec![7; 64]), Secret::from(&b"one"[..]), [9; 32]);
-    let mut drive = Drive::over(&mut image[..]);
-    drive.format(&FormatInput::new(Profile::Key512, &key, &salt, 1000, &"u".repeat(36)).stripes(1)).expect("a drive");
-    drive.add(1, &key, &SlotInput::new(&one, &salt, 1000, &[])).expect("a passphrase");
-    let opened = drive.open(&one).expect("slot 1 opens");
+    let opened = opened();
     let flags = flags_of(opened.key.expose().as_ptr());
     assert!(has(&flags, "dd") && (has(&flags, "lo") || !may_lock(PAGE)), "{flags:?}");
 }
@@ -130,7 +106,7 @@ fn a_refused_lock_is_no_failure() {
         let flags = flags_of(secret.expose().as_ptr());
         assert!(!has(&flags, "lo") && has(&flags, "dd"), "{flags:?}");
         mivrozh::lock_stack();
-        opens_a_drive();
+        opened();
     });
     with_limit(16 * PAGE as u64, || {
         let (large, small) = (Secret::from(vec![1; 64 * PAGE]), Secret::from(vec![1; 64]));
@@ -174,7 +150,7 @@ fn the_stack_of_a_call_is_locked_and_left_out_of_dumps() {
             let flags = flags(&depth);
             assert!(has(&flags, "dd") && (has(&flags, "lo") || !allowed), "{depth} below: {flags:?}");
         }
-        opens_a_drive();
+        opened();
     };
     // The C library gives the stack of a thread that has ended to a later one, locked as it is. None was as large as this.
     let large = std::thread::Builder::new().stack_size(32 * 1024 * 1024);

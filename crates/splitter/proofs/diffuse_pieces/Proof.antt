@@ -78,7 +78,8 @@ loop-again c =
       omega (arith, n .ensures),
       omega (arith, n .ensures),
       search needs,
-      diffuse-step sha1 (omega arith) (l .at) (n .result) (l .i) (l .d) s′ (h .result) (diffuse sha1 s₀) (omega arith) (n .ensures ∙ ap (λ (k : ℕ). min 20 (k - l .at)) (sym (l .inv .2))) (search needs) (h .ensures) (c .before .before .copy-into .ensures) (l .inv .3),
+      diffuse-step sha1 (omega arith) (l .at) (n .result) (l .i) (l .d) s′ (h .result) (diffuse sha1 s₀) (omega arith)
+          (n .ensures ∙ ap (λ (k : ℕ). min 20 (k - l .at)) (sym (l .inv .2))) (search needs) (h .ensures) (c .before .before .copy-into .ensures) (l .inv .3),
     )
 
 same-length : tie.Need-same-length Inv-loop μ-loop

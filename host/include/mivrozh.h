@@ -4,7 +4,7 @@
  * Every call works on one image that the caller lends: the header, the eight key areas and the payload of a drive, from its
  * first byte. Link with libmivrozh.a (`pkg-config --cflags --libs mivrozh` where it is installed; in the repository it is
  * target/staticlib/libcapi.a). The library needs memcpy and memset, has no global state, allocates nothing and makes no
- * system call; the stack of a call stays below 8 KiB. Calls on different images may run at the same time.
+ * system call; the stack of a call stays below MIVROZH_MOST_STACK bytes. Calls on different images may run at the same time.
  *
  * RESULT. 0: accepted. Else the number of the first check that failed, in the order each call lists; then image and buffers
  * are as they were before, and an opening has filled its buffer with zeros.
@@ -56,6 +56,10 @@
 
 #include <stddef.h>
 #include <stdint.h>
+
+/* The stack of a call stays below the first of these, in bytes. The second is what mivrozh_wipe_stack wipes. */
+#define MIVROZH_MOST_STACK 57344
+#define MIVROZH_WIPED_STACK (MIVROZH_MOST_STACK + 8192)
 
 #ifdef __cplusplus
 extern "C" {
@@ -133,24 +137,24 @@ uint8_t mivrozh_read(const uint8_t *image, size_t image_len, const uint8_t *key,
 uint8_t mivrozh_write(uint8_t *image, size_t image_len, const uint8_t *key, size_t key_len, uint64_t first, uint64_t units, const uint8_t *buffer, size_t buffer_len);
 
 /*
- * Wipes the stack below its caller, as far as a call and the frames around it reach (16 KiB, which must be there). Call it
- * right after a call that had a key or a passphrase, from the same function. It is no part of the library but is compiled
- * with the program, by GCC or clang. It pushes zeros, so that no byte is left out and the end of the stack is not passed
- * unseen.
+ * Wipes the stack below its caller, as far as a call and the frames around it reach: MIVROZH_WIPED_STACK bytes, which must be
+ * there. Call it right after a call that had a key or a passphrase, from the same function. It is no part of the library but is
+ * compiled with the program, by GCC or clang. It pushes zeros, so that no byte is left out and the end of the stack is not
+ * passed unseen.
  * Registers are not cleared. The dynamic linker saves them to the stack where a function is called for the first time; link
  * with -z now (gcc -Wl,-z,now), so that it has no need to.
  */
 #if defined(__GNUC__) && defined(__x86_64__)
 static __attribute__((noinline, unused)) void mivrozh_wipe_stack(void) {
     __asm__ volatile(
-        "movl $2048, %%ecx\n"
+        "movl %0, %%ecx\n"
         "1:\n\t"
         "pushq $0\n\t"
         "decl %%ecx\n\t"
         "jnz 1b\n\t"
-        "addq $16384, %%rsp"
+        "addq %1, %%rsp"
         :
-        :
+        : "i"(MIVROZH_WIPED_STACK / 8), "i"(MIVROZH_WIPED_STACK)
         : "rcx", "cc", "memory");
 }
 #endif

@@ -1,7 +1,9 @@
 pub mod ListLaws
+pub mod GroupLaws
+pub mod PlaneLaws
+pub mod PremixLaws
+pub mod TransposeLaws
 pub mod MixLaws
 pub mod AesLaws
-pub mod WordLaws
-pub mod StateLaws
-pub mod ScheduleLaws
+pub mod CommuteLaws
 pub mod Vectors

@@ -1,2 +1,3 @@
 pub mod Aes
-pub mod State
+pub mod Planes
+pub mod Columns

@@ -1,53 +1,53 @@
--- Each entry of the two tables is the substitution or its inverse, by one test over each whole table; the two undo each other.
-use mathlib.Core.Path.{_≡_, sym, ap, _∙_}
-use Prim.Native.Nat.{ℕ, _<_}
-use lib.Dec.{ltb, ltb→lt}
-use lib.ListN.{getD}
+-- The substitution and its inverse give bytes, and undo each other: each way by one test over all 256 bytes.
+use mathlib.Core.Path.{_≡_}
+use Prim.Native.Nat.{ℕ, zero, suc, _+_, _/_, _%_, _<_}
+use native.Mathlib.Nat.{mod-lt, zero-lt-suc}
+use native.Mathlib.Omega.{arith}
 use Rattle.octets.specs.Octets.{_⊕_}
-use Rattle.octets.proofs.TableLaws.{same-below, below-at}
-use Rattle.gf256.specs.Tables.{sbox, invSbox}
+use Rattle.octets.proofs.TableLaws.{same-below}
+use Rattle.gf256.proofs.FieldLaws.{mul-byte}
 use Rattle.gf256.specs.Field.{xtime, times, mul, factor, power, inverse, bit, ofBits, affine, invAffine, sub, invSub}
-
--- ---- the tables
-
-pub sbox-at : (k : ℕ) → k < 256 → getD sbox k 0 ≡ sub k
-unfolding _⊕_ xtime times mul factor power inverse bit ofBits affine sub sbox
-sbox-at = same-below (λ k. getD sbox k 0) sub 256 tt
-
-pub invSbox-at : (k : ℕ) → k < 256 → getD invSbox k 0 ≡ invSub k
-unfolding _⊕_ xtime times mul factor power inverse bit ofBits invAffine invSub invSbox
-invSbox-at = same-below (λ k. getD invSbox k 0) invSub 256 tt
 
 -- ---- bytes go to bytes
 
-sbox-byte : (k : ℕ) → k < 256 → getD sbox k 0 < 256
-unfolding sbox
-sbox-byte k h = ltb→lt (getD sbox k 0) 256 (below-at (λ k. ltb (getD sbox k 0) 256) 256 tt k h)
+bits-byte : (f : ℕ → ℕ) → ofBits (λ i. f i % 2) < 256
+unfolding ofBits
+bits-byte f =
+    let m : (i : ℕ) → f i % 2 < 2 = λ i. mod-lt (f i) (zero-lt-suc 1) in
+    omega (arith, m 0, m 1, m 2, m 3, m 4, m 5, m 6, m 7)
 
-invSbox-byte : (k : ℕ) → k < 256 → getD invSbox k 0 < 256
-unfolding invSbox
-invSbox-byte k h = ltb→lt (getD invSbox k 0) 256 (below-at (λ k. ltb (getD invSbox k 0) 256) 256 tt k h)
+affine-byte : (b : ℕ) → affine b < 256
+unfolding affine
+affine-byte b = bits-byte (λ i. bit b i + bit b ((i + 4) % 8) + bit b ((i + 5) % 8) + bit b ((i + 6) % 8) + bit b ((i + 7) % 8) + bit 99 i)
 
-pub sub-byte : (k : ℕ) → k < 256 → sub k < 256
-sub-byte k h = rw (← sbox-at k h) (sbox-byte k h)
+invAffine-byte : (b : ℕ) → invAffine b < 256
+unfolding invAffine
+invAffine-byte b = bits-byte (λ i. bit b ((i + 2) % 8) + bit b ((i + 5) % 8) + bit b ((i + 7) % 8) + bit 5 i)
 
-pub invSub-byte : (k : ℕ) → k < 256 → invSub k < 256
-invSub-byte k h = rw (← invSbox-at k h) (invSbox-byte k h)
+factor-byte : (k a b : ℕ) → b < 256 → factor k a b < 256
+unfolding factor
+factor-byte zero a b h = h
+factor-byte (suc k) a b h = mul-byte a b h
+
+power-byte : (n e a : ℕ) → a < 256 → power n e a < 256
+unfolding power
+power-byte zero e a h = omega arith
+power-byte (suc n) e a h = factor-byte (e % 2) a (power n (e / 2) (mul a a)) (power-byte n (e / 2) (mul a a) (mul-byte a a h))
+
+pub sub-byte : (k : ℕ) → sub k < 256
+unfolding sub
+sub-byte k = affine-byte (inverse k)
+
+pub invSub-byte : (k : ℕ) → invSub k < 256
+unfolding inverse invSub
+invSub-byte k = power-byte 8 254 (invAffine k) (invAffine-byte k)
 
 -- ---- the one undoes the other
 
-undo : (k : ℕ) → k < 256 → getD invSbox (getD sbox k 0) 0 ≡ k
-unfolding sbox invSbox
-undo = same-below (λ k. getD invSbox (getD sbox k 0) 0) (λ k. k) 256 tt
-
-redo : (k : ℕ) → k < 256 → getD sbox (getD invSbox k 0) 0 ≡ k
-unfolding sbox invSbox
-redo = same-below (λ k. getD sbox (getD invSbox k 0) 0) (λ k. k) 256 tt
-
 pub sub-undo : (k : ℕ) → k < 256 → invSub (sub k) ≡ k
-sub-undo k h =
-    sym (invSbox-at (sub k) (sub-byte k h)) ∙ ap (λ (x : ℕ). getD invSbox x 0) (sym (sbox-at k h)) ∙ undo k h
+unfolding _⊕_ xtime times mul factor power inverse bit ofBits affine invAffine sub invSub
+sub-undo = same-below (λ k. invSub (sub k)) (λ k. k) 256 tt
 
 pub sub-redo : (k : ℕ) → k < 256 → sub (invSub k) ≡ k
-sub-redo k h =
-    sym (sbox-at (invSub k) (invSub-byte k h)) ∙ ap (λ (x : ℕ). getD sbox x 0) (sym (invSbox-at k h)) ∙ redo k h
+unfolding _⊕_ xtime times mul factor power inverse bit ofBits affine invAffine sub invSub
+sub-redo = same-below (λ k. sub (invSub k)) (λ k. k) 256 tt

@@ -1,13 +1,11 @@
--- Laws of an area: what filling and the candidate come to, lengths, and merging unit by unit over any diffusion function.
+-- Laws of an area: what filling and the candidate come to, lengths, and merging group by group over any diffusion function.
 use mathlib.Core.Path.{_≡_, refl, sym, ap, ap₂, _∙_}
-use mathlib.Core.List.{List, [], _++_, append-nil}
+use mathlib.Core.List.{List, _++_}
 use Prim.Native.Nat.{ℕ, zero, suc, _+_, _-_, _*_, _/_, _%_, _<_, _≤_}
 use native.Mathlib.Nat.{mul-le-mul-right, mul-assoc}
-use native.Mathlib.Numerals.{add-one}
 use native.Mathlib.Omega.{arith}
 use lib.ListN.{length, take, drop, length-drop}
 use lib.Seq.{take-all, take-at, drop-drop}
-use Rattle.octets.proofs.PiecesLaws.{inPieces-more, inPieces-none}
 use Rattle.sha1.specs.Sha1.{sha1}
 use Rattle.pbkdf2.specs.Pbkdf2.{pbkdf2}
 use Rattle.suite.specs.Split.{running, split, mergeFrom, merge}
@@ -15,6 +13,7 @@ use Rattle.suite.specs.Units.{inUnits}
 use Rattle.suite.proofs.SplitLaws.{mergeFrom-append}
 use Rattle.splitter.specs.Diffuse.{diffuse}
 use Rattle.xts.specs.Xts.{xtsEncrypt, xtsDecrypt}
+use Rattle.xts.proofs.UnitLaws.{units-split}
 use Rattle.rules.specs.Facts.{keyMaterial, candidateOf}
 use Rattle.built.specs.Built.{aesXtsSha1}
 use Rattle.keyslot.specs.Keyslot.{slotInput}
@@ -54,51 +53,46 @@ whole-blocks n L x e h =
     let c : x ≡ n * (L / 32) * 32 = sym e ∙ ap (λ (k : ℕ). n * k) a ∙ b in
     omega (arith, c)
 
--- ---- how many stripes are left, where a unit holds per of them
+-- ---- how many stripes are left, where a group holds per of them
 
-module _ (L per left : ℕ) (e : per * L ≡ 512) where
-  pub more-left : 512 < left * L → per < left
+module _ (L per left : ℕ) (e : per * L ≡ 16384) where
+  pub more-left : 16384 < left * L → per < left
   more-left h = go (left - per) refl
     where
       go : (k : ℕ) → left - per ≡ k → per < left
       go (suc k) q = omega arith
       go zero q = absurd (let b : left ≤ per = omega arith in let m : left * L ≤ per * L = mul-le-mul-right L b in omega arith)
 
-  pub less-left : (x : ℕ) → per < left → left * L ≡ x → (left - per) * L ≡ x - 512
+  pub less-left : (x : ℕ) → per < left → left * L ≡ x → (left - per) * L ≡ x - 16384
   less-left x h f =
       let a : left ≡ (left - per) + per = omega arith in
       let b : left * L ≡ ((left - per) + per) * L = ap (λ (n : ℕ). n * L) a in
       omega arith
 
--- ---- merging unit by unit; f is what a unit becomes
+-- ---- merging group by group; f is what a unit becomes
 
 module _ (H : List ℕ → List ℕ) (L : ℕ) (f : ℕ → List ℕ → List ℕ) (at u left : ℕ) (d d′ area q : List ℕ) (ld : length d ≡ L)
     (e : mergeFrom H L d (left - 1) (inUnits f u (drop at area)) ≡ q) where
-  -- a unit more, of per stripes, lent up to index at + 512
-  pub merge-more : (per : ℕ) → 512 < length area - at → per < left → per * L ≡ 512
-      → length (f u (take (at + 512 - at) (drop at area))) ≡ 512
-      → d′ ≡ running H (length d) d per (f u (take (at + 512 - at) (drop at area)))
-      → mergeFrom H L d′ (left - per - 1) (inUnits f (u + 1) (drop (at + 512) area)) ≡ q
-  merge-more per h hl hp ly ed =
-      let z : at + 512 - at ≡ 512 = omega arith in
+  -- 32 units more, of per stripes, lent up to index at + 16384; v is the number of the next
+  pub merge-more : (per v : ℕ) → per < left → per * L ≡ 16384 → v ≡ u + 32
+      → length (inUnits f u (take (at + 16384 - at) (drop at area))) ≡ 16384
+      → d′ ≡ running H (length d) d per (inUnits f u (take (at + 16384 - at) (drop at area)))
+      → mergeFrom H L d′ (left - per - 1) (inUnits f v (drop (at + 16384) area)) ≡ q
+  merge-more per v hl hp hv ly ed =
+      let z : at + 16384 - at ≡ 16384 = omega arith in
       let j : left - per - 1 ≡ (left - 1) - per = omega arith in
-      let y : List ℕ = f u (take 512 (drop at area)) in
-      let r : List ℕ = inUnits f (suc u) (drop 512 (drop at area)) in
-      let y′ : f u (take (at + 512 - at) (drop at area)) ≡ y = ap (λ (n : ℕ). f u (take n (drop at area))) z in
-      let r′ : inUnits f (u + 1) (drop (at + 512) area) ≡ r = ap₂ (λ (n : ℕ) (x : List ℕ). inUnits f n x) (add-one u) (sym (drop-drop 512 at area)) in
+      let y : List ℕ = inUnits f u (take 16384 (drop at area)) in
+      let r : List ℕ = inUnits f (u + 32) (drop 16384 (drop at area)) in
+      let y′ : inUnits f u (take (at + 16384 - at) (drop at area)) ≡ y = ap (λ (n : ℕ). inUnits f u (take n (drop at area))) z in
+      let r′ : inUnits f v (drop (at + 16384) area) ≡ r = ap₂ (λ (n : ℕ) (x : List ℕ). inUnits f n x) hv (sym (drop-drop 16384 at area)) in
       ap₂ (λ (n : ℕ) (x : List ℕ). mergeFrom H L d′ n x) j r′
       ∙ ap (λ (x : List ℕ). mergeFrom H L x (left - 1 - per) r) (ed ∙ ap₂ (λ (n : ℕ) (x : List ℕ). running H n d per x) ld y′)
       ∙ sym (mergeFrom-append H L (left - 1) per d y r (omega arith) (sym (ap length y′) ∙ ly ∙ sym hp))
-      ∙ ap (mergeFrom H L d (left - 1)) (sym (inPieces-more 512 (omega arith) f u (drop at area) (omega (arith, length-drop at area))))
+      ∙ ap (mergeFrom H L d (left - 1)) (sym (units-split f 32 u (drop at area)))
       ∙ e
 
-  -- the last unit, lent up to the area's end
-  pub merge-end : at < length area → length area - at ≤ 512
-      → d′ ≡ mergeFrom H (length d) d (left - 1) (f u (take (length area - at) (drop at area))) → d′ ≡ q
-  merge-end h1 h ed =
-      let x : List ℕ = drop at area in
-      let l : length x ≡ length area - at = length-drop at area in
-      let a : take (length area - at) x ≡ take 512 x = take-all (length area - at) x (omega arith) ∙ sym (take-all 512 x (omega arith)) in
-      let n : inUnits f (suc u) (drop 512 x) ≡ [] = inPieces-none 512 (omega arith) f (suc u) (drop 512 x) (length-drop 512 x ∙ omega arith) in
-      let m : inUnits f u x ≡ f u (take 512 x) = inPieces-more 512 (omega arith) f u x (omega arith) ∙ ap (λ (r : List ℕ). f u (take 512 x) ++ r) n ∙ append-nil (f u (take 512 x)) in
-      ed ∙ ap₂ (λ (n : ℕ) (y : List ℕ). mergeFrom H n d (left - 1) (f u y)) ld a ∙ ap (mergeFrom H L d (left - 1)) (sym m) ∙ e
+  -- the last group, lent up to the area's end
+  pub merge-end : d′ ≡ mergeFrom H (length d) d (left - 1) (inUnits f u (take (length area - at) (drop at area))) → d′ ≡ q
+  merge-end ed =
+      let a : take (length area - at) (drop at area) ≡ drop at area = take-all (length area - at) (drop at area) (omega (arith, length-drop at area)) in
+      ed ∙ ap₂ (λ (n : ℕ) (y : List ℕ). mergeFrom H n d (left - 1) (inUnits f u y)) ld a ∙ e

@@ -1,14 +1,17 @@
 // A key slot's area: filling it, and its candidate (LUKS 1.2.2, sections 4.2 and 4.3).
 use xts::Keys;
 ghost use mathlib.Core.Path.{_≡_};
-ghost use Prim.Native.Nat.{_+_, _-_, _*_, _%_, _≤_, _<_, _^_};
+ghost use mathlib.Core.Bool.{false};
+ghost use mathlib.Core.List.{List};
+ghost use Prim.Native.Nat.{ℕ, _+_, _-_, _*_, _%_, _≤_, _<_, _^_};
 ghost use lib.ListN.{length, take};
 ghost use Rattle.sha1.specs.Sha1.{sha1};
 ghost use Rattle.pbkdf2.specs.Pbkdf2.{pbkdf2};
 ghost use Rattle.suite.specs.Split.{running, mergeFrom, merge};
 ghost use Rattle.suite.specs.Units.{inUnits};
 ghost use Rattle.splitter.specs.Diffuse.{diffuse};
-ghost use Rattle.xts.specs.Keys.{Ready, unitDecrypt};
+ghost use Rattle.aes.specs.Planes.{Sliced};
+ghost use Rattle.xts.specs.Keys.{Ready, Under, unitDecrypt};
 ghost use Rattle.rules.specs.Facts.{keyMaterial, candidateOf};
 ghost use Rattle.built.specs.Built.{aesXtsSha1};
 ghost use Rattle.keyslot.specs.Keyslot.{slotInput};
@@ -33,8 +36,10 @@ pub fn fill(
     random: &[u8],
     n: usize,
 )
-    requires { ⌜ (1 ≤ n) × (n * length (now key) ≡ length (now area)) × (length (now random) ≡ (n - 1) * length (now key)) × (32 ≤ length (now key)) × (length (now key) ≤ 64) × (length (now key) % 32 ≡ 0) × (1 ≤ count) × (length (now passphrase) < 2 ^ 61) × (length (now salt) < 2 ^ 60) ⌝ }
-    ensures { λ _. ⌜ now (area .exit) ≡ keyMaterial aesXtsSha1 (length (now (key .entry))) n (now (key .entry)) (slotInput (now (passphrase .entry)) (now (salt .entry)) count (now (random .entry))) ⌝ }
+    requires { ⌜ (1 ≤ n) × (n * length (now key) ≡ length (now area)) × (length (now random) ≡ (n - 1) * length (now key)) × (32 ≤ length (now key)) × (length (now key) ≤ 64)
+        × (length (now key) % 32 ≡ 0) × (1 ≤ count) × (length (now passphrase) < 2 ^ 61) × (length (now salt) < 2 ^ 60) ⌝ }
+    ensures { λ _. ⌜ now (area .exit) ≡ keyMaterial aesXtsSha1 (length (now (key .entry))) n (now (key .entry))
+        (slotInput (now (passphrase .entry)) (now (salt .entry)) count (now (random .entry))) ⌝ }
 {
     let l = key.len();
     splitter::split_into(area, key, random, n);
@@ -42,68 +47,116 @@ pub fn fill(
     xts::encrypt_all(area, 0, &k[..l]);
 }
 
-// The data unit u, deciphered into b.
-fn decipher(b: &mut [u8], unit: &[u8], u: u64, keys: Keys)
-    requires { ⌜ (length (now b) ≡ length (now unit)) × (length (now unit) % 16 ≡ 0) × Ready keys ⌝ }
-    ensures { λ _. ⌜ now (b .exit) ≡ unitDecrypt keys u (now (unit .entry)) ⌝ }
+// The data units of a group, numbered from u, deciphered into b under the sliced key schedules ks of the blocks and vs of the tweaks.
+fn decipher(b: &mut [u8], group: &[u8], u: u64, ks: &[u32], vs: &[u32], n: usize)
+    requires { ⌜ (length (now b) ≡ length (now group)) × (length (now group) % 16 ≡ 0) × (u + length (now group) < 2 ^ 64) × ((n + 2) * 128 ≤ length (now ks)) × ((n + 2) * 128 ≤ length (now vs)) ⌝ }
+    ensures { λ _. ⌜ ((f : ℕ → List ℕ → List ℕ) → Under false n (now (ks .entry)) (now (vs .entry)) f → now (b .exit) ≡ inUnits f u (now (group .entry))) ⌝ }
 {
-    octets::copy_into(b, 0, unit);
-    xts::decrypt_unit(b, u, keys);
+    octets::copy_into(b, 0, group);
+    xts::decrypt_sliced(b, u, ks, vs, n);
 }
 
-// A unit that the last stripe is not in: its m stripes on the running block d.
-fn whole_unit(d: &mut [u8], unit: &[u8], u: u64, keys: Keys, m: usize)
-    requires { ⌜ (length (now unit) ≡ 512) × (m * length (now d) ≡ 512) × (length (now d) ≤ 64) × Ready keys ⌝ }
-    ensures { λ _. ⌜ now (d .exit) ≡ running (diffuse sha1) (length (now (d .entry))) (now (d .entry)) m (unitDecrypt keys u (now (unit .entry))) ⌝ }
+// A group that the last stripe is not in, deciphered into b: its m stripes on the running block d.
+fn whole_group(
+    d: &mut [u8],
+    b: &mut [u8],
+    group: &[u8],
+    u: u64,
+    ks: &[u32],
+    vs: &[u32],
+    n: usize,
+    m: usize,
+)
+    requires { ⌜ (length (now b) ≡ length (now group)) × (length (now group) % 16 ≡ 0) × (u + length (now group) < 2 ^ 64) × ((n + 2) * 128 ≤ length (now ks))
+        × ((n + 2) * 128 ≤ length (now vs)) × (length (now group) ≡ m * length (now d)) × (length (now d) ≤ 64) ⌝ }
+    ensures { λ _. ⌜ ((f : ℕ → List ℕ → List ℕ) → Under false n (now (ks .entry)) (now (vs .entry)) f
+        → now (d .exit) ≡ running (diffuse sha1) (length (now (d .entry))) (now (d .entry)) m (inUnits f u (now (group .entry)))) ⌝ }
 {
-    let mut b = [0u8; 512];
-    decipher(&mut b, unit, u, keys);
-    splitter::add_stripes(d, &b, m);
+    decipher(b, group, u, ks, vs, n);
+    splitter::add_stripes(d, b, m);
 }
 
-// The unit with the last stripe, and m stripes before it.
-fn last_unit(d: &mut [u8], unit: &[u8], u: u64, keys: Keys, m: usize)
-    requires { ⌜ (length (now unit) ≡ m * length (now d) + length (now d)) × (length (now unit) ≤ 512) × (length (now unit) % 16 ≡ 0) × (length (now d) ≤ 64) × Ready keys ⌝ }
-    ensures { λ _. ⌜ now (d .exit) ≡ mergeFrom (diffuse sha1) (length (now (d .entry))) (now (d .entry)) m (unitDecrypt keys u (now (unit .entry))) ⌝ }
+// The group with the last stripe, and m stripes before it, deciphered into b.
+fn last_group(
+    d: &mut [u8],
+    b: &mut [u8],
+    group: &[u8],
+    u: u64,
+    ks: &[u32],
+    vs: &[u32],
+    n: usize,
+    m: usize,
+)
+    requires { ⌜ (length (now b) ≡ length (now group)) × (length (now group) % 16 ≡ 0) × (u + length (now group) < 2 ^ 64) × ((n + 2) * 128 ≤ length (now ks))
+        × ((n + 2) * 128 ≤ length (now vs)) × (length (now group) ≡ m * length (now d) + length (now d)) × (length (now d) ≤ 64) ⌝ }
+    ensures { λ _. ⌜ ((f : ℕ → List ℕ → List ℕ) → Under false n (now (ks .entry)) (now (vs .entry)) f
+        → now (d .exit) ≡ mergeFrom (diffuse sha1) (length (now (d .entry))) (now (d .entry)) m (inUnits f u (now (group .entry)))) ⌝ }
 {
-    let mut b = [0u8; 512];
-    let len = unit.len();
-    decipher(&mut b[..len], unit, u, keys);
-    splitter::merge_from(d, &b[..len], m);
+    decipher(b, group, u, ks, vs, n);
+    splitter::merge_from(d, b, m);
 }
 
-// The stripes of l bytes in a unit.
-fn per_unit(l: usize) -> usize
+// The stripes of l bytes in a group of 32 data units.
+fn per_group(l: usize) -> usize
     requires { ⌜ (32 ≤ l) × (l ≤ 64) × (l % 32 ≡ 0) ⌝ }
-    ensures { λ r. ⌜ r * l ≡ 512 ⌝ }
+    ensures { λ r. ⌜ r * l ≡ 16384 ⌝ }
 {
-    if l < 64 { 16 } else { 8 }
+    if l < 64 { 512 } else { 256 }
 }
 
-// The merged decryption of an area under an expanded key, unit by unit.
+// The merged decryption of an area under the sliced key schedules ks and vs, group by group.
+fn merge_groups(d: &mut [u8], area: &[u8], n: usize, ks: &[u32], vs: &[u32], rounds: usize)
+    requires { ⌜ (1 ≤ n) × (n * length (now d) ≡ length (now area)) × (32 ≤ length (now d)) × (length (now d) ≤ 64) × (length (now d) % 32 ≡ 0)
+        × ((rounds + 2) * 128 ≤ length (now ks)) × ((rounds + 2) * 128 ≤ length (now vs)) ⌝ }
+    ensures { λ _. ⌜ ((f : ℕ → List ℕ → List ℕ) → Under false rounds (now (ks .entry)) (now (vs .entry)) f
+        → now (d .exit) ≡ merge (diffuse sha1) (length (now (d .entry))) n (inUnits f 0 (now (area .entry)))) ⌝ }
+{
+    octets::clear(d);
+    let per = per_group(d.len());
+    let len = area.len();
+    let mut b = [0u8; 16384];
+    let mut at: usize = 0;
+    let mut left = n;
+    while 16384 < len - at {
+        let e = at + 16384;
+        let u = (at / 512) as u64;
+        whole_group(d, &mut b, &area[at..e], u, ks, vs, rounds, per);
+        at = e;
+        left -= per;
+    }
+    let k = len - at;
+    let u = (at / 512) as u64;
+    last_group(d, &mut b[..k], &area[at..], u, ks, vs, rounds, left - 1);
+}
+
+// The merged decryption of an area under an expanded key, whose schedule of the blocks is sliced in ks. (A function that slices both
+// schedules would hold a third on the stack.)
+fn merge_sliced(d: &mut [u8], area: &[u8], n: usize, ks: &[u32], keys: Keys)
+    requires { ⌜ (1 ≤ n) × (n * length (now d) ≡ length (now area)) × (32 ≤ length (now d)) × (length (now d) ≤ 64) × (length (now d) % 32 ≡ 0) × (length (now ks) ≡ 1920) × Ready keys ⌝ }
+    ensures { λ _. ⌜ (Sliced (keys .rounds + 2) (keys .blocks) (now (ks .entry))
+        → now (d .exit) ≡ merge (diffuse sha1) (length (now (d .entry))) n (inUnits (unitDecrypt keys) 0 (now (area .entry)))) ⌝ }
+{
+    let v = keys.tweaks;
+    let rounds = keys.rounds;
+    let vs = cipher::slice_keys(&v, rounds + 2);
+    merge_groups(d, area, n, ks, &vs, rounds);
+}
+
+// The merged decryption of an area under an expanded key.
 fn merge_units(d: &mut [u8], area: &[u8], n: usize, keys: Keys)
     requires { ⌜ (1 ≤ n) × (n * length (now d) ≡ length (now area)) × (32 ≤ length (now d)) × (length (now d) ≤ 64) × (length (now d) % 32 ≡ 0) × Ready keys ⌝ }
     ensures { λ _. ⌜ now (d .exit) ≡ merge (diffuse sha1) (length (now (d .entry))) n (inUnits (unitDecrypt keys) 0 (now (area .entry))) ⌝ }
 {
-    octets::clear(d);
-    let per = per_unit(d.len());
-    let len = area.len();
-    let mut at: usize = 0;
-    let mut u: u64 = 0;
-    let mut left = n;
-    while 512 < len - at {
-        let e = at + 512;
-        whole_unit(d, &area[at..e], u, keys, per);
-        at = e;
-        u += 1;
-        left -= per;
-    }
-    last_unit(d, &area[at..], u, keys, left - 1);
+    let w = keys.blocks;
+    let rounds = keys.rounds;
+    let ks = cipher::slice_keys(&w, rounds + 2);
+    merge_sliced(d, area, n, &ks, keys);
 }
 
 // The candidate of an area of n stripes, in d; the area stays as it is.
 pub fn candidate(d: &mut [u8], area: &[u8], n: usize, passphrase: &[u8], salt: &[u8], count: u32)
-    requires { ⌜ (1 ≤ n) × (n * length (now d) ≡ length (now area)) × (32 ≤ length (now d)) × (length (now d) ≤ 64) × (length (now d) % 32 ≡ 0) × (1 ≤ count) × (length (now passphrase) < 2 ^ 61) × (length (now salt) < 2 ^ 60) ⌝ }
+    requires { ⌜ (1 ≤ n) × (n * length (now d) ≡ length (now area)) × (32 ≤ length (now d)) × (length (now d) ≤ 64) × (length (now d) % 32 ≡ 0) × (1 ≤ count)
+        × (length (now passphrase) < 2 ^ 61) × (length (now salt) < 2 ^ 60) ⌝ }
     ensures { λ _. ⌜ now (d .exit) ≡ candidateOf aesXtsSha1 (length (now (d .entry))) n (now (passphrase .entry)) (now (salt .entry)) count (now (area .entry)) ⌝ }
 {
     let l = d.len();

@@ -1,12 +1,11 @@
 -- Numbers in bytes, the lowest first.
 use mathlib.Core.Path.{_≡_, refl, sym, ap, ap₂, _∙_}
-use mathlib.Core.List.{List, [], _∷_, _++_}
+use mathlib.Core.List.{List, _∷_, _++_}
 use Prim.Native.Nat.{ℕ, zero, suc, _+_, _*_, _/_, _%_, _^_, _<_}
 use native.Mathlib.Nat.{mod-lt, mod-eq-of-lt, zero-lt-suc, pow-suc, mul-assoc, mul-one, add-zero, div-lt-iff-lt-mul}
 use native.Mathlib.Omega.{arith}
-use lib.ListN.{getD}
 use lib.Pow.{shr-shr}
-use Rattle.octets.specs.Octets.{Str, _⊕_, bigEndian}
+use Rattle.octets.specs.Octets.{Str, _⊕_}
 use Rattle.octets.proofs.XorLaws.{⊕-div, ⊕-mod, ⊕-zero}
 use Rattle.xts.specs.Xts.{littleEndian, littleValue}
 
@@ -69,9 +68,3 @@ unfolding littleEndian
 littleEndian-⊕ n x c h =
     ap₂ (λ (r : ℕ) (l : List ℕ). r ∷ l) (⊕-mod x c 8 ∙ ap (λ (y : ℕ). (x % 256) ⊕ y) (mod-eq-of-lt h))
     (ap (littleEndian n) (⊕-div x c 8 ∙ ap (λ (y : ℕ). (x / 256) ⊕ y) (let z : c / 256 ≡ 0 = omega arith in z) ∙ ⊕-zero (x / 256)))
-
--- ---- words of AES, whose highest byte is first
-
-pub turn-back : (r x : ℕ) → bigEndian 4 r ≡ littleEndian 4 x → littleEndian 4 r ≡ bigEndian 4 x
-unfolding bigEndian littleEndian
-turn-back r x e = ap (λ (l : List ℕ). getD l 3 0 ∷ getD l 2 0 ∷ getD l 1 0 ∷ getD l 0 0 ∷ []) e

@@ -1,14 +1,14 @@
--- The tweak in two halves of 64 bits: its doubling is the doubling of one number, and it goes to a state of AES and back.
+-- The tweak in two halves of 64 bits: its doubling is the doubling of one number.
 use mathlib.Core.Path.{_≡_, refl, sym, ap, ap₂, _∙_}
-use mathlib.Core.List.{List, [], _∷_, _++_, append-assoc, append-nil}
-use Prim.Native.Nat.{ℕ, _+_, _*_, _/_, _%_, _^_, _<_}
-use native.Mathlib.Nat.{add-comm, add-assoc, mod-lt}
+use mathlib.Core.List.{List, [], _∷_, _++_, append-nil}
+use Prim.Native.Nat.{ℕ, zero, suc, _+_, _-_, _*_, _/_, _%_, _^_, _<_, _≤_}
+use native.Mathlib.Nat.{add-assoc, mod-lt}
 use native.Mathlib.Omega.{arith}
-use lib.Bits.{bitOr, bitXor, or-shifted}
+use lib.Bits.{bitAnd, bitOr, bitXor, or-shifted}
 use lib.Pow.{high, low, split, shr-shr, shr-lt, mod-pow-add, pow-pos}
-use Rattle.octets.specs.Octets.{_⊕_, xors, bigEndian, zeros}
+use Rattle.octets.specs.Octets.{_⊕_, xors, zeros}
 use Rattle.xts.specs.Xts.{littleEndian, littleValue, unitBlock, double}
-use Rattle.xts.proofs.LittleLaws.{littleEndian-low, littleEndian-4-4, littleEndian-8-8, littleValue-append, littleEndian-⊕, turn-back}
+use Rattle.xts.proofs.LittleLaws.{littleEndian-low, littleEndian-8-8, littleValue-append, littleEndian-⊕}
 
 -- ---- doubling
 
@@ -31,6 +31,20 @@ rest x = fits (x % 2 ^ 63) (mod-lt x (pow-pos 63))
 
 top : (x : ℕ) → x < 2 ^ 64 → x / 2 ^ 63 < 2
 top x h = shr-lt 1 63 h
+
+-- the bit c shifted out: a mask of it, and what it adds
+masked : (c : ℕ) → c < 2 → bitAnd ((c * 2 ^ 8) % 2 ^ 64 - c) 135 ≡ c * 135
+masked zero h = refl
+masked (suc zero) h = refl
+masked (suc (suc c)) h = absurd (omega arith)
+
+pub mask-room : (x : ℕ) → x < 2 ^ 64 → x / 2 ^ 63 ≤ (x / 2 ^ 63 * 2 ^ 8) % 2 ^ 64
+mask-room x h = room (x / 2 ^ 63) (top x h)
+  where
+    room : (c : ℕ) → c < 2 → c ≤ (c * 2 ^ 8) % 2 ^ 64
+    room zero h = omega arith
+    room (suc zero) h = omega arith
+    room (suc (suc c)) h = absurd (omega arith)
 
 -- a bit that comes in below goes through
 carry-in : (x b : ℕ) → b < 2 → ((x * 2 + b) / 2 ^ 64 ≡ x / 2 ^ 63) × ((x * 2 + b) % 2 ^ 64 ≡ (x * 2) % 2 ^ 64 + b)
@@ -81,7 +95,7 @@ module _ (lo hi : ℕ) (hl : lo < 2 ^ 64) (hh : hi < 2 ^ 64) where
   halves x y h =
       littleEndian-8-8 (y * 2 ^ 64 + x) ∙ ap₂ (λ (p : List ℕ) (q : ℕ). p ++ littleEndian 8 q) (littleEndian-low 8 y x) (high y 64 h)
 
-  pub double-halves : littleEndian 8 (bitXor ((lo * 2 ^ 1) % 2 ^ 64) (hi / 2 ^ 63 * 135)) ++ littleEndian 8 (bitOr ((hi * 2 ^ 1) % 2 ^ 64) (lo / 2 ^ 63))
+  pub double-halves : littleEndian 8 (bitXor ((lo * 2 ^ 1) % 2 ^ 64) (bitAnd ((hi / 2 ^ 63 * 2 ^ 8) % 2 ^ 64 - hi / 2 ^ 63) 135)) ++ littleEndian 8 (bitOr ((hi * 2 ^ 1) % 2 ^ 64) (lo / 2 ^ 63))
       ≡ double (littleEndian 8 lo ++ littleEndian 8 hi)
   unfolding double _⊕_
   double-halves =
@@ -89,31 +103,13 @@ module _ (lo hi : ℕ) (hl : lo < 2 ^ 64) (hh : hi < 2 ^ 64) where
       let h : c < 256 = omega arith in
       let u : ℕ = (hi * 2) % 2 ^ 64 + lo / 2 ^ 63 in
       let l : ℕ = (lo * 2) % 2 ^ 64 in
-      ap₂ _++_ (littleEndian-⊕ 7 l c h) (ap (littleEndian 8) upper)
+      ap₂ _++_ (ap (λ (m : ℕ). littleEndian 8 (l ⊕ m)) (masked (hi / 2 ^ 63) (top hi hh)) ∙ littleEndian-⊕ 7 l c h) (ap (littleEndian 8) upper)
       ∙ sym (xors-byte l u c)
       ∙ ap (λ (x : List ℕ). xors x (c ∷ [])) (sym (halves l u (omega arith)) ∙ ap (littleEndian 16) (sym shifted))
       ∙ ap (λ (x : ℕ). xors (littleEndian 16 ((hi * 2 ^ 64 + lo) * 2 % 2 ^ 128)) (x * 135 ∷ [])) (sym out)
       ∙ ap (λ (v : ℕ). xors (littleEndian 16 (v * 2 % 2 ^ 128)) (v * 2 / 2 ^ 128 * 135 ∷ [])) (sym value)
 
--- ---- a state of AES
-
-pub join-words : (a b p q : ℕ) → p < 2 ^ 32 → bigEndian 4 p ≡ littleEndian 4 a → bigEndian 4 q ≡ littleEndian 4 b
-    → littleEndian 8 (p + q * 4294967296) ≡ bigEndian 4 a ++ bigEndian 4 b
-join-words a b p q h ep eq =
-    ap (littleEndian 8) (add-comm p (q * 4294967296)) ∙ littleEndian-4-4 (q * 2 ^ 32 + p)
-    ∙ ap₂ (λ (x : List ℕ) (y : ℕ). x ++ littleEndian 4 y) (littleEndian-low 4 q p) (high q 32 h)
-    ∙ ap₂ _++_ (turn-back p a ep) (turn-back q b eq)
-
-pub state-words : (lo hi a b c d : ℕ) → bigEndian 4 a ≡ littleEndian 4 lo → bigEndian 4 b ≡ littleEndian 4 (lo / 2 ^ 32)
-    → bigEndian 4 c ≡ littleEndian 4 hi → bigEndian 4 d ≡ littleEndian 4 (hi / 2 ^ 32)
-    → bigEndian 4 a ++ (bigEndian 4 b ++ (bigEndian 4 c ++ bigEndian 4 d)) ≡ littleEndian 8 lo ++ littleEndian 8 hi
-state-words lo hi a b c d ea eb ec ed =
-    sym (append-assoc (bigEndian 4 a) (bigEndian 4 b) (bigEndian 4 c ++ bigEndian 4 d))
-    ∙ ap₂ _++_ (ap₂ _++_ ea eb ∙ sym (littleEndian-4-4 lo)) (ap₂ _++_ ec ed ∙ sym (littleEndian-4-4 hi))
-
-pub tweak-words : (lo hi a b c d : ℕ) → littleEndian 8 lo ≡ bigEndian 4 a ++ bigEndian 4 b → littleEndian 8 hi ≡ bigEndian 4 c ++ bigEndian 4 d
-    → littleEndian 8 lo ++ littleEndian 8 hi ≡ bigEndian 4 a ++ (bigEndian 4 b ++ (bigEndian 4 c ++ bigEndian 4 d))
-tweak-words lo hi a b c d el eh = ap₂ _++_ el eh ∙ append-assoc (bigEndian 4 a) (bigEndian 4 b) (bigEndian 4 c ++ bigEndian 4 d)
+-- ---- the number of a unit
 
 pub unit-tweak : (u : ℕ) → littleEndian 8 u ++ littleEndian 8 0 ≡ unitBlock u
 unfolding unitBlock littleEndian zeros

@@ -2,11 +2,12 @@
 use mathlib.Core.Path.{_≡_}
 use mathlib.Core.List.{List, _++_}
 use mathlib.Core.Bool.{Bool, true, false}
-use Prim.Native.Nat.{ℕ, _+_, _*_, _/_, _≤_}
+use Prim.Native.Nat.{ℕ, zero, suc, _+_, _*_, _/_, _%_, _^_, _<_, _≤_}
 use lib.ListN.{length, take}
-use Rattle.gf256.specs.Tables.{sbox, invSbox}
 use Rattle.aes.specs.Aes.{cipher, invCipher, expand}
-use Rattle.xts.specs.Xts.{littleEndian, dataUnit, dataKey, tweakKey}
+use Rattle.aes.specs.Planes.{Sliced}
+use Rattle.aes.specs.Planes as planes
+use Rattle.xts.specs.Xts.{littleEndian, unitBlock, double, dataUnit, dataKey, tweakKey}
 use Rattle.xts.specs.declared.Tweak.{Tweak}
 use Rattle.xts.specs.declared.Keys.{Keys}
 
@@ -14,11 +15,18 @@ use Rattle.xts.specs.declared.Keys.{Keys}
 unfoldable pub tweakBytes : Tweak → List ℕ
 tweakBytes t = littleEndian 8 (t .low) ++ littleEndian 8 (t .high)
 
--- k has room for its rounds, and the right tables
+-- the tweak of block b, t being that of the first
+unfoldable pub tweakAt : ℕ → List ℕ → List ℕ
+tweakAt zero t = t
+tweakAt (suc b) t = double (tweakAt b t)
+
+-- the blocks of t are the first tweaks of 32 data units from the number u on, under the key schedule that is sliced in vs
+unfoldable pub Firsts : ℕ → List ℕ → ℕ → List ℕ → Type 0
+Firsts n vs u t = (v : List ℕ) → Sliced (n + 2) v vs → (b : ℕ) → b < 32 → planes.block b t ≡ cipher n v (unitBlock ((u + b) % 2 ^ 64))
+
+-- k has room for its rounds
 pub record Ready (k : Keys) : Type 0 where
   pub room : (k .rounds + 2) * 16 ≤ 240
-  pub table : k .sbox ≡ sbox
-  pub inverse : k .inverse ≡ invSbox
 
 -- k is key, expanded
 pub record Expanded (k : Keys) (key : List ℕ) : Type 0 where
@@ -33,6 +41,15 @@ pub record Expanded (k : Keys) (key : List ℕ) : Type 0 where
 abbrev pub cipherOf : Bool → ℕ → List ℕ → List ℕ → List ℕ
 cipherOf true = cipher
 cipherOf false = invCipher
+
+-- f is the work on a data unit under the key schedules, of n rounds and the last, that are sliced in ks for the blocks and in vs for the
+-- tweaks
+pub record Under (forward : Bool) (n : ℕ) (ks vs : List ℕ) (f : ℕ → List ℕ → List ℕ) : Type 0 where
+  pub blocks : List ℕ
+  pub tweaks : List ℕ
+  pub for-data : Sliced (n + 2) blocks ks
+  pub for-tweak : Sliced (n + 2) tweaks vs
+  pub is : f ≡ dataUnit (cipherOf forward n blocks) (cipher n tweaks)
 
 -- the data unit s with the number u, under an expanded key
 unfoldable pub unitRun : Bool → Keys → ℕ → List ℕ → List ℕ

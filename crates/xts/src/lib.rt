@@ -1,16 +1,16 @@
-// XTS-AES (IEEE 1619) on data units of whole blocks, in place.
+// XTS-AES (IEEE 1619) on data units of whole blocks, in place: 32 blocks at a time, and the first tweaks of 32 data units at a time.
+// A data unit has 512 bytes, the last maybe fewer. No index, branch or shift count comes from a key or from data.
 ghost use mathlib.Core.Path.{_≡_};
-ghost use mathlib.Core.List.{_++_};
-ghost use Prim.Native.Nat.{_+_, _*_, _/_, _%_, _<_, _≤_, _^_};
+ghost use mathlib.Core.Bool.{false};
+ghost use mathlib.Core.List.{List, _++_};
+ghost use Prim.Native.Nat.{ℕ, _+_, _-_, _*_, _/_, _%_, _<_, _≤_, _^_};
 ghost use lib.ListN.{length};
-ghost use Rattle.octets.specs.Octets.{bigEndian};
-ghost use Rattle.octets.specs.Splice.{slice, splice};
+ghost use Rattle.octets.specs.Octets.{xors};
+ghost use Rattle.octets.specs.Splice.{slice};
 ghost use Rattle.suite.specs.Units.{inUnits};
-ghost use Rattle.gf256.specs.Tables.{sbox, invSbox};
-ghost use Rattle.aes.specs.Aes.{cipher};
-ghost use Rattle.aes.specs.State.{bytesOf};
-ghost use Rattle.xts.specs.Xts.{littleEndian, unitBlock, double, block, blocks, xtsEncrypt, xtsDecrypt};
-ghost use Rattle.xts.specs.Keys.{tweakBytes, Ready, Expanded, cipherOf, unitRun, unitEncrypt, unitDecrypt};
+ghost use Rattle.aes.specs.Planes.{column, block, Sliced};
+ghost use Rattle.xts.specs.Xts.{littleEndian, double, blocks, xtsEncrypt, xtsDecrypt};
+ghost use Rattle.xts.specs.Keys.{tweakBytes, tweakAt, Firsts, Ready, Expanded, Under, cipherOf, unitRun, unitEncrypt, unitDecrypt};
 
 // A tweak: a little-endian number of 16 bytes, in two halves.
 pub struct Tweak {
@@ -18,167 +18,184 @@ pub struct Tweak {
     pub high: u64,
 }
 
-// A key expanded once, for many data units: the key schedules of its halves, for the blocks and for the tweaks,
-// the number of rounds before the last, and the tables of AES.
+// A key expanded once, for many data units: the key schedules of its halves, for the blocks and for the tweaks, and the number of
+// rounds before the last.
 pub struct Keys {
     pub blocks: [u8; 240],
     pub tweaks: [u8; 240],
     pub rounds: usize,
-    pub sbox: [u8; 256],
-    pub inverse: [u8; 256],
 }
+
+// ---- tweaks
 
 // The tweak shifted left by one; a bit shifted out adds 0x87 to the first byte.
 fn double(t: Tweak) -> Tweak
     ensures { λ r. ⌜ tweakBytes r ≡ double (tweakBytes t) ⌝ }
 {
+    let c = t.high >> 63;
     Tweak {
-        low: (t.low << 1) ^ ((t.high >> 63) * 0x87),
+        low: (t.low << 1) ^ (((c << 8) - c) & 0x87),
         high: t.high << 1 | t.low >> 63,
     }
 }
 
-// The low four bytes of x as a word of AES: the lowest byte becomes the highest.
-fn turned(x: u64) -> u32
-    ensures { λ r. ⌜ bigEndian 4 r ≡ littleEndian 4 x ⌝ }
+// The tweaks of 32 blocks, the first of which is first.
+fn tweaks(first: Tweak) -> [u32; 128]
+    ensures { λ r. ⌜ ((b : ℕ) → b < 32 → block b r ≡ tweakAt b (tweakBytes first)) ⌝ }
 {
-    octets::quad_of(
+    let mut u = [0u32; 128];
+    let mut t = first;
+    let mut b: usize = 0;
+    while b < 32 {
+        let k = 4 * b;
+        u[k] = (t.low % 4294967296) as u32;
+        u[k + 1] = (t.low / 4294967296) as u32;
+        u[k + 2] = (t.high % 4294967296) as u32;
+        u[k + 3] = (t.high / 4294967296) as u32;
+        t = double(t);
+        b += 1;
+    }
+    u
+}
+
+// The first tweaks of 32 data units: their numbers from first on, enciphered with the sliced key schedule ks.
+fn first_tweaks(first: u64, ks: &[u32], n: usize) -> [u32; 128]
+    requires { ⌜ (n + 2) * 128 ≤ length (now ks) ⌝ }
+    ensures { λ r. ⌜ Firsts n (now (ks .entry)) first r ⌝ }
+{
+    let mut q = [0u32; 128];
+    let mut b: usize = 0;
+    while b < 32 {
+        let m = std::num::wrapping_add_u64(first, b as u64);
+        let k = 4 * b;
+        q[k] = (m % 4294967296) as u32;
+        q[k + 1] = (m / 4294967296) as u32;
+        q[k + 2] = 0;
+        q[k + 3] = 0;
+        b += 1;
+    }
+    cipher::encrypt_blocks(&mut q, ks, n);
+    q
+}
+
+// The number of eight bytes, the lowest first: those of the columns a and b.
+fn joined(a: u32, b: u32) -> u64
+    ensures { λ r. ⌜ littleEndian 8 r ≡ column a ++ column b ⌝ }
+{
+    a as u64 + b as u64 * 4294967296
+}
+
+// Block b of t, as a tweak.
+fn tweak_at(t: &[u32; 128], b: usize) -> Tweak
+    requires { ⌜ (b < 32) × (length (now t) ≡ 128) ⌝ }
+    ensures { λ r. ⌜ tweakBytes r ≡ block b (now (t .entry)) ⌝ }
+{
+    let k = 4 * b;
+    Tweak {
+        low: joined(t[k], t[k + 1]),
+        high: joined(t[k + 2], t[k + 3]),
+    }
+}
+
+// ---- up to 32 blocks
+
+// The blocks of q with the bytes of s added to them.
+fn load(q: &mut [u32; 128], s: &[u8])
+    requires { ⌜ (length (now q) ≡ 128) × (length (now s) ≤ 512) × (length (now s) % 16 ≡ 0) ⌝ }
+    ensures { λ _. ⌜ (length (now (q .exit)) ≡ 128) × ((b : ℕ) → b < length (now (s .entry)) / 16 → block b (now (q .exit)) ≡ xors (slice (now (s .entry)) (b * 16) 16) (block b (now (q .entry)))) ⌝ }
+{
+    let n = s.len() / 4;
+    let mut j: usize = 0;
+    while j < n {
+        q[j] = cipher::column_at(s, 4 * j) ^ q[j];
+        j += 1;
+    }
+}
+
+// The bytes of a column.
+fn bytes(x: u32) -> [u8; 4]
+    ensures { λ r. ⌜ r ≡ column x ⌝ }
+{
+    [
         (x % 256) as u8,
         (x / 256 % 256) as u8,
         (x / 256 / 256 % 256) as u8,
         (x / 256 / 256 / 256 % 256) as u8,
-    )
+    ]
 }
 
-// The number of eight bytes, the lowest first: those of the words a and b of AES.
-fn joined(a: u32, b: u32) -> u64
-    ensures { λ r. ⌜ littleEndian 8 r ≡ bigEndian 4 a ++ bigEndian 4 b ⌝ }
+// The sums of the blocks of q and u, as many as s has, as its bytes.
+fn store(s: &mut [u8], q: &[u32; 128], u: &[u32; 128])
+    requires { ⌜ (length (now q) ≡ 128) × (length (now u) ≡ 128) × (length (now s) ≤ 512) × (length (now s) % 16 ≡ 0) ⌝ }
+    ensures { λ _. ⌜ ((b : ℕ) → b < length (now (s .entry)) / 16 → slice (now (s .exit)) (b * 16) 16 ≡ xors (block b (now (q .entry))) (block b (now (u .entry)))) ⌝ }
 {
-    turned(a as u64) as u64 + turned(b as u64) as u64 * 4294967296
-}
-
-// The tweak as a state of AES.
-fn to_state(t: Tweak) -> aes::State
-    ensures { λ r. ⌜ bytesOf r ≡ tweakBytes t ⌝ }
-{
-    aes::State {
-        a: turned(t.low),
-        b: turned(t.low >> 32),
-        c: turned(t.high),
-        d: turned(t.high >> 32),
+    let n = s.len() / 4;
+    let mut j: usize = 0;
+    while j < n {
+        let x = bytes(q[j] ^ u[j]);
+        octets::copy_into(s, 4 * j, &x);
+        j += 1;
     }
 }
 
-// A state of AES as a tweak.
-fn to_tweak(s: aes::State) -> Tweak
-    ensures { λ r. ⌜ tweakBytes r ≡ bytesOf s ⌝ }
-{
-    Tweak {
-        low: joined(s.a, s.b),
-        high: joined(s.c, s.d),
-    }
-}
-
-// The tweak of a data unit's first block: its number, enciphered.
-fn first_tweak(unit: u64, v: &[u8], n: usize, tab: &[u8; 256]) -> Tweak
-    requires { ⌜ ((n + 2) * 16 ≤ length (now v)) × (now tab ≡ sbox) ⌝ }
-    ensures { λ r. ⌜ tweakBytes r ≡ cipher n (now (v .entry)) (unitBlock unit) ⌝ }
-{
-    let number = Tweak { low: unit, high: 0 };
-    to_tweak(aes::encrypt_block(to_state(number), v, n, tab))
-}
-
-// One block under the key schedule w: enciphered, or deciphered where forward is false.
-fn run_block(
-    t: aes::State,
-    forward: bool,
-    w: &[u8],
-    n: usize,
-    tab: &[u8; 256],
-    inv: &[u8; 256],
-) -> aes::State
-    requires { ⌜ ((n + 2) * 16 ≤ length (now w)) × (now tab ≡ sbox) × (now inv ≡ invSbox) ⌝ }
-    ensures { λ r. ⌜ bytesOf r ≡ cipherOf forward n (now (w .entry)) (bytesOf t) ⌝ }
+// Each block under the sliced key schedule ks: enciphered, or deciphered where forward is false.
+fn run_cipher(q: &mut [u32; 128], forward: bool, ks: &[u32], n: usize)
+    requires { ⌜ (length (now q) ≡ 128) × ((n + 2) * 128 ≤ length (now ks)) ⌝ }
+    ensures { λ _. ⌜ (length (now (q .exit)) ≡ 128) × ((w : List ℕ) → Sliced (n + 2) w (now (ks .entry)) → (b : ℕ) → b < 32
+        → block b (now (q .exit)) ≡ cipherOf forward n w (block b (now (q .entry)))) ⌝ }
 {
     if forward {
-        return aes::encrypt_block(t, w, n, tab);
-    }
-    aes::decrypt_block(t, w, n, inv)
-}
-
-// The block of s at index at, under the tweak t.
-fn run_at(
-    s: &mut [u8],
-    at: usize,
-    t: Tweak,
-    forward: bool,
-    w: &[u8],
-    n: usize,
-    tab: &[u8; 256],
-    inv: &[u8; 256],
-)
-    requires { ⌜ (at + 16 ≤ length (now s)) × ((n + 2) * 16 ≤ length (now w)) × (now tab ≡ sbox) × (now inv ≡ invSbox) ⌝ }
-    ensures { λ _. ⌜ now (s .exit) ≡ splice (now (s .entry)) at (block (cipherOf forward n (now (w .entry))) (tweakBytes t) (slice (now (s .entry)) at 16)) ⌝ }
-{
-    let x = to_state(t);
-    let y = run_block(aes::add(aes::load(s, at), x), forward, w, n, tab, inv);
-    let b = aes::bytes(aes::add(y, x));
-    octets::copy_into(s, at, &b);
-}
-
-// The blocks of s, the first under the tweak first.
-fn run_blocks(
-    s: &mut [u8],
-    first: Tweak,
-    forward: bool,
-    w: &[u8],
-    n: usize,
-    tab: &[u8; 256],
-    inv: &[u8; 256],
-)
-    requires { ⌜ (length (now s) % 16 ≡ 0) × ((n + 2) * 16 ≤ length (now w)) × (now tab ≡ sbox) × (now inv ≡ invSbox) ⌝ }
-    ensures { λ _. ⌜ now (s .exit) ≡ blocks (cipherOf forward n (now (w .entry))) (length (now (s .entry)) / 16) (tweakBytes first) (now (s .entry)) ⌝ }
-{
-    let count = s.len() / 16;
-    let mut t = first;
-    let mut m: usize = 0;
-    while m < count {
-        run_at(s, m * 16, t, forward, w, n, tab, inv);
-        t = double(t);
-        m += 1;
+        cipher::encrypt_blocks(q, ks, n);
+    } else {
+        cipher::decrypt_blocks(q, ks, n);
     }
 }
 
-// A key of 32 or 64 bytes, expanded.
-pub fn expand(key: &[u8]) -> Keys
-    requires { ⌜ (32 ≤ length (now key)) × (length (now key) ≤ 64) × (length (now key) % 32 ≡ 0) ⌝ }
-    ensures { λ r. ⌜ Expanded r (now (key .entry)) ⌝ }
+// The blocks of s, the first under the tweak t.
+fn run_blocks(s: &mut [u8], t: Tweak, forward: bool, ks: &[u32], n: usize)
+    requires { ⌜ (length (now s) ≤ 512) × (length (now s) % 16 ≡ 0) × ((n + 2) * 128 ≤ length (now ks)) ⌝ }
+    ensures { λ _. ⌜ ((w : List ℕ) → Sliced (n + 2) w (now (ks .entry)) → now (s .exit) ≡ blocks (cipherOf forward n w) (length (now (s .entry)) / 16) (tweakBytes t) (now (s .entry))) ⌝ }
 {
-    let sbox = aes::sbox();
-    let inverse = aes::inv_sbox();
-    let half = key.len() / 2;
-    let blocks = aes::expand_key(&key[..half], &sbox);
-    let tweaks = aes::expand_key(&key[half..], &sbox);
-    Keys {
-        blocks: blocks,
-        tweaks: tweaks,
-        rounds: half / 4 + 5,
-        sbox: sbox,
-        inverse: inverse,
+    let u = tweaks(t);
+    let mut q = u;
+    load(&mut q, s);
+    run_cipher(&mut q, forward, ks, n);
+    store(s, &q, &u);
+}
+
+// ---- data units
+
+// At most 32 data units in place, numbered from first, under the sliced key schedules ks of the blocks and vs of the tweaks.
+fn run_group(s: &mut [u8], first: u64, forward: bool, ks: &[u32], vs: &[u32], n: usize)
+    requires { ⌜ (length (now s) ≤ 16384) × (length (now s) % 16 ≡ 0) × (first + length (now s) < 2 ^ 64) × ((n + 2) * 128 ≤ length (now ks)) × ((n + 2) * 128 ≤ length (now vs)) ⌝ }
+    ensures { λ _. ⌜ ((f : ℕ → List ℕ → List ℕ) → Under forward n (now (ks .entry)) (now (vs .entry)) f → now (s .exit) ≡ inUnits f first (now (s .entry))) ⌝ }
+{
+    let t = first_tweaks(first, vs, n);
+    let len = s.len();
+    let mut at: usize = 0;
+    while at < len {
+        let x = tweak_at(&t, at / 512);
+        let k = octets::least(512, len - at);
+        let e = at + k;
+        run_blocks(&mut s[at..e], x, forward, ks, n);
+        at = e;
     }
 }
 
-// One data unit in place, under an expanded key.
-fn run_unit(s: &mut [u8], unit: u64, forward: bool, keys: Keys)
-    requires { ⌜ (length (now s) % 16 ≡ 0) × Ready keys ⌝ }
-    ensures { λ _. ⌜ now (s .exit) ≡ unitRun forward keys unit (now (s .entry)) ⌝ }
+// The data units of s in place, numbered from first, under the sliced key schedules ks of the blocks and vs of the tweaks.
+fn run_sliced(s: &mut [u8], first: u64, forward: bool, ks: &[u32], vs: &[u32], n: usize)
+    requires { ⌜ (length (now s) % 16 ≡ 0) × (first + length (now s) < 2 ^ 64) × ((n + 2) * 128 ≤ length (now ks)) × ((n + 2) * 128 ≤ length (now vs)) ⌝ }
+    ensures { λ _. ⌜ ((f : ℕ → List ℕ → List ℕ) → Under forward n (now (ks .entry)) (now (vs .entry)) f → now (s .exit) ≡ inUnits f first (now (s .entry))) ⌝ }
 {
-    let w = keys.blocks;
-    let v = keys.tweaks;
-    let sbox = keys.sbox;
-    let inverse = keys.inverse;
-    let t = first_tweak(unit, &v, keys.rounds, &sbox);
-    run_blocks(s, t, forward, &w, keys.rounds, &sbox, &inverse);
+    let len = s.len();
+    let mut at: usize = 0;
+    while at < len {
+        let u = first + (at / 512) as u64;
+        let k = octets::least(16384, len - at);
+        let e = at + k;
+        run_group(&mut s[at..e], u, forward, ks, vs, n);
+        at = e;
+    }
 }
 
 // The data units of s in place, numbered from first, under an expanded key.
@@ -186,32 +203,35 @@ fn run_units(s: &mut [u8], first: u64, forward: bool, keys: Keys)
     requires { ⌜ (length (now s) % 16 ≡ 0) × (first + length (now s) < 2 ^ 64) × Ready keys ⌝ }
     ensures { λ _. ⌜ now (s .exit) ≡ inUnits (unitRun forward keys) first (now (s .entry)) ⌝ }
 {
-    let len = s.len();
-    let mut u = first;
-    let mut at: usize = 0;
-    while at < len {
-        let k = octets::least(512, len - at);
-        let e = at + k;
-        run_unit(&mut s[at..e], u, forward, keys);
-        at = e;
-        u += 1;
+    let w = keys.blocks;
+    let v = keys.tweaks;
+    let n = keys.rounds;
+    let ks = cipher::slice_keys(&w, n + 2);
+    let vs = cipher::slice_keys(&v, n + 2);
+    run_sliced(s, first, forward, &ks, &vs, n);
+}
+
+// A key of 32 or 64 bytes, expanded.
+pub fn expand(key: &[u8]) -> Keys
+    requires { ⌜ (32 ≤ length (now key)) × (length (now key) ≤ 64) × (length (now key) % 32 ≡ 0) ⌝ }
+    ensures { λ r. ⌜ Expanded r (now (key .entry)) ⌝ }
+{
+    let half = key.len() / 2;
+    let blocks = cipher::expand_key(&key[..half]);
+    let tweaks = cipher::expand_key(&key[half..]);
+    Keys {
+        blocks: blocks,
+        tweaks: tweaks,
+        rounds: half / 4 + 5,
     }
 }
 
-// One data unit enciphered in place, under an expanded key.
-pub fn encrypt_unit(s: &mut [u8], unit: u64, keys: Keys)
-    requires { ⌜ (length (now s) % 16 ≡ 0) × Ready keys ⌝ }
-    ensures { λ _. ⌜ now (s .exit) ≡ unitEncrypt keys unit (now (s .entry)) ⌝ }
+// The data units of s deciphered in place, numbered from first, under the sliced key schedules ks of the blocks and vs of the tweaks.
+pub fn decrypt_sliced(s: &mut [u8], first: u64, ks: &[u32], vs: &[u32], n: usize)
+    requires { ⌜ (length (now s) % 16 ≡ 0) × (first + length (now s) < 2 ^ 64) × ((n + 2) * 128 ≤ length (now ks)) × ((n + 2) * 128 ≤ length (now vs)) ⌝ }
+    ensures { λ _. ⌜ ((f : ℕ → List ℕ → List ℕ) → Under false n (now (ks .entry)) (now (vs .entry)) f → now (s .exit) ≡ inUnits f first (now (s .entry))) ⌝ }
 {
-    run_unit(s, unit, true, keys);
-}
-
-// One data unit deciphered in place, under an expanded key.
-pub fn decrypt_unit(s: &mut [u8], unit: u64, keys: Keys)
-    requires { ⌜ (length (now s) % 16 ≡ 0) × Ready keys ⌝ }
-    ensures { λ _. ⌜ now (s .exit) ≡ unitDecrypt keys unit (now (s .entry)) ⌝ }
-{
-    run_unit(s, unit, false, keys);
+    run_sliced(s, first, false, ks, vs, n);
 }
 
 // The data units of s enciphered in place, numbered from first, under an expanded key.

@@ -6,8 +6,11 @@ pub const PASSPHRASE: &[u8] = b"passphrase";
 const SALT: [u8; 32] = [7; 32];
 
 pub struct Drive {
-    pub image: Vec<u8>,
-    pub key: Vec<u8>,
+    image: Vec<u8>,
+    key: Vec<u8>,
+    random: Vec<u8>,
+    count: u32,
+    header: Vec<u8>,
 }
 
 fn accepted(call: &str, number: u8) -> Result<(), String> {
@@ -19,14 +22,27 @@ fn accepted(call: &str, number: u8) -> Result<(), String> {
 }
 
 impl Drive {
-    /// A drive with one stripe a slot, so that nothing but derivations takes time, and so many payload units. Slot 1
-    /// has this count.
-    pub fn new(bits: usize, count: u32, units: usize) -> Result<Drive, String> {
+    /// A drive with so many stripes a slot and so many payload units; at one stripe nothing but derivations takes time.
+    /// Slots have this count, the first has a passphrase.
+    pub fn new(bits: usize, stripes: u32, count: u32, units: usize) -> Result<Drive, String> {
         let key: Vec<u8> = (0..bits as u32 / 8).map(|i| i as u8).collect();
-        let mut image = vec![0x5a; (65 + units) * 512];
-        accepted("format", raw::format(&mut image, (bits / 256) as u8, 1, &key, &SALT, 1000, &[b'u'; 36]))?;
-        accepted("add", raw::add(&mut image, 1, &key, PASSPHRASE, &SALT, count, &[]))?;
-        Ok(Drive { image, key })
+        let random = vec![0x11; (stripes as usize - 1) * key.len()];
+        let start = if stripes == 1 { 65 } else { 4037 };
+        let mut image = vec![0x5a; (start + units) * 512];
+        accepted("format", raw::format(&mut image, (bits / 256) as u8, stripes, &key, &SALT, 1000, &[b'u'; 36]))?;
+        accepted("add", raw::add(&mut image, 1, &key, PASSPHRASE, &SALT, count, &random))?;
+        let header = image[..1024].to_vec();
+        Ok(Drive { image, key, random, count, header })
+    }
+
+    /// Adds a passphrase in slot 2.
+    pub fn add(&mut self) -> Result<(), String> {
+        accepted("add", raw::add(&mut self.image, 2, &self.key, b"second", &SALT, self.count, &self.random))
+    }
+
+    /// Slot 2 is free again.
+    pub fn take_back(&mut self) {
+        self.image[..1024].copy_from_slice(&self.header);
     }
 
     pub fn open(&self) -> Result<(), String> {

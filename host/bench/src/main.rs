@@ -1,18 +1,20 @@
 //! Benchmarks. Every ratio compares figures of this run, each the least time of several runs; above 1 we are faster.
 //!
-//!     bench
+//!     bench [pbkdf2] [payload] [areas] [slots] [counts] [units] [transfers]
 //!
-//! Needs the commands openssl and cryptsetup. OpenSSL's PBKDF2 is timed by `openssl kdf` with a large count less a
-//! small one, its AES-XTS by `openssl speed` on pieces of 512 bytes. Ours is timed through the calls, since the
-//! library exports nothing else: PBKDF2 by an opening of a drive of one stripe with a large count less a small one.
+//! Without a name it measures all parts. Needs the commands openssl and cryptsetup. OpenSSL's PBKDF2 is timed by
+//! `openssl kdf` with a large count less a small one, its AES-XTS by `openssl speed` on pieces of 512 bytes. Ours is
+//! timed through the calls, since the library exports nothing else: PBKDF2 by an opening of a drive of one stripe with
+//! a large count less a small one.
 
+mod areas;
 mod drive;
+mod payload;
 mod peers;
 mod timing;
 mod transfer;
 
 use drive::Drive;
-use peers::Without;
 use std::path::{Path, PathBuf};
 use std::process::{Command, ExitCode};
 use timing::{by_turns, least};
@@ -29,7 +31,7 @@ const SMALL: u32 = 1_000;
 fn pbkdf2(bits: usize) -> Outcome {
     let bytes = bits / 8;
     println!("PBKDF2-HMAC-SHA-1, key of {bytes} bytes, million HMAC values a second (two compressions each):");
-    let (large, small) = (Drive::new(bits, LARGE, 0)?, Drive::new(bits, SMALL, 0)?);
+    let (large, small) = (Drive::new(bits, 1, LARGE, 0)?, Drive::new(bits, 1, SMALL, 0)?);
     let values = (LARGE - SMALL) as f64 * bytes.div_ceil(20) as f64;
     for without in [peers::NOTHING, peers::SHA_EXTENSIONS] {
         let (ours, theirs) = by_turns(RUNS, &mut || large.open(), &mut || peers::kdf(without, LARGE, bytes))?;
@@ -37,38 +39,6 @@ fn pbkdf2(bits: usize) -> Outcome {
         let (ours, theirs) = (values / (ours - less) / 1e6, values / (theirs - start) / 1e6);
         println!("  ours {ours:6.2}   OpenSSL {theirs:6.2}   ratio {:5.2}   OpenSSL {}", ours / theirs, without.name);
     }
-    Ok(())
-}
-
-/// Megabytes a second of a run of units, all but the checksum's derivation.
-fn throughput(bytes: usize, whole: f64, checksum: f64) -> f64 {
-    bytes as f64 / (whole - checksum) / 1e6
-}
-
-fn payload(bits: usize) -> Outcome {
-    println!("Payload, {bits}-bit key, units of 512 bytes, megabytes a second:");
-    let units = 512;
-    let mut drive = Drive::new(bits, SMALL, units)?;
-    let mut buffer = vec![0x33; units * 512];
-    let checksum = least(SHORT, &mut || drive.read(0, &mut []))?;
-    let read = least(SHORT, &mut || drive.read(units, &mut buffer))?;
-    let write = least(SHORT, &mut || drive.write(units, &buffer))?;
-    for (name, seconds, decipher) in [("read ", read, true), ("write", write, false)] {
-        let ours = throughput(units * 512, seconds, checksum);
-        for without in [peers::NOTHING, peers::AES_NI, peers::AES_NI_AND_SSSE3] {
-            print_xts(name, ours, without, bits, decipher)?;
-        }
-    }
-    Ok(())
-}
-
-fn print_xts(name: &str, ours: f64, without: Without, bits: usize, decipher: bool) -> Outcome {
-    let mut theirs: f64 = 0.0;
-    for _ in 0..3 {
-        theirs = theirs.max(peers::xts(without, bits, decipher)? / 1e6);
-    }
-    let ratio = ours / theirs;
-    println!("  {name} ours {ours:6.1}   OpenSSL {theirs:7.1}   ratio {ratio:6.3}   OpenSSL {}", without.name);
     Ok(())
 }
 
@@ -157,7 +127,7 @@ fn adding(folder: &Folder, bytes: &[u8], first: &Path, new: &Path) -> Outcome {
 fn against_count() -> Outcome {
     println!("Opening against the count (512-bit key, one stripe, checksum count 1,000):");
     for (count, runs) in [(1_000, SHORT), (10_000, RUNS), (100_000, RUNS), (1_000_000, 3)] {
-        let drive = Drive::new(512, count, 0)?;
+        let drive = Drive::new(512, 1, count, 0)?;
         let seconds = least(runs, &mut || drive.open())?;
         let each = seconds * 1e6 / count as f64;
         println!("  count {count:9}   {:9.2} ms   {each:6.2} microseconds a count", seconds * 1e3);
@@ -168,7 +138,7 @@ fn against_count() -> Outcome {
 fn against_units() -> Outcome {
     println!("Reading against the number of units (512-bit key, checksum count 1,000):");
     let most = 16_384;
-    let drive = Drive::new(512, SMALL, most)?;
+    let drive = Drive::new(512, 1, SMALL, most)?;
     let mut buffer = vec![0; most * 512];
     let checksum = least(SHORT, &mut || drive.read(0, &mut []))?;
     println!("  units       0   {:9.3} ms   the checksum", checksum * 1e3);
@@ -180,20 +150,30 @@ fn against_units() -> Outcome {
     Ok(())
 }
 
+type Part = (&'static str, fn() -> Outcome);
+
+const PARTS: [Part; 7] = [
+    ("pbkdf2", || pbkdf2(256).and_then(|()| pbkdf2(512))),
+    ("payload", || payload::payload(256).and_then(|()| payload::payload(512))),
+    ("areas", areas::areas),
+    ("slots", slots),
+    ("counts", against_count),
+    ("units", against_units),
+    ("transfers", transfer::transfers),
+];
+
 fn run() -> Outcome {
     let cpu = std::fs::read_to_string("/proc/cpuinfo").unwrap_or_default();
     let name = cpu.lines().find_map(|l| l.strip_prefix("model name")).unwrap_or(": unknown");
     println!("processor{name}");
     println!("{}", peers::run(Command::new("openssl").arg("version"))?.trim());
     println!("{}", peers::run(Command::new("cryptsetup").arg("--version"))?.trim());
-    pbkdf2(256)?;
-    pbkdf2(512)?;
-    payload(256)?;
-    payload(512)?;
-    slots()?;
-    against_count()?;
-    against_units()?;
-    transfer::transfers()
+    let given: Vec<String> = std::env::args().skip(1).collect();
+    if let Some(unknown) = given.iter().find(|name| PARTS.iter().all(|(part, _)| part != name)) {
+        return Err(format!("there is no part {unknown}"));
+    }
+    let chosen = |part: &str| given.is_empty() || given.iter().any(|name| name == part);
+    PARTS.iter().filter(|(part, _)| chosen(part)).try_for_each(|(_, measure)| measure())
 }
 
 fn main() -> ExitCode {

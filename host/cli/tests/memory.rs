@@ -41,9 +41,9 @@ fn regions(process: u32) -> Option<Vec<Region>> {
     Some(regions)
 }
 
-// Whether the system lets a process lock as much as the tool does.
+// Whether the system lets a process lock as much as the tool does: the stack, and some pages for a passphrase.
 fn may_lock() -> bool {
-    let memory = vec![0; 128 * 1024];
+    let memory = vec![0; mivrozh::LOCKED_STACK + 64 * 1024];
     // SAFETY: the memory is the test's.
     unsafe { mlock(memory.as_ptr(), memory.len()) == 0 && munlock(memory.as_ptr(), memory.len()) == 0 }
 }
@@ -57,7 +57,7 @@ fn a_passphrase_and_the_engines_stack_are_locked_and_not_dumped() {
     let guarded = |region: &&Region| region.has("dd") && (region.has("lo") || !may_lock());
     let (mut of_stack, mut others) = (0, 0);
     let start = Instant::now();
-    while (of_stack < 32 * 1024 || others == 0) && start.elapsed() < Duration::from_secs(10) {
+    while (of_stack < mivrozh::LOCKED_STACK || others == 0) && start.elapsed() < Duration::from_secs(10) {
         let Some(regions) = regions(child.id()) else {
             println!("the tool's mappings cannot be seen by this user: nothing was tested");
             child.kill().and_then(|()| child.wait()).expect("the tool ends");
@@ -75,6 +75,6 @@ fn a_passphrase_and_the_engines_stack_are_locked_and_not_dumped() {
     }
     drop(child.stdin.take());
     assert_eq!(child.wait().expect("the tool ends").code(), Some(14), "an empty passphrase is refused");
-    assert!(of_stack >= 32 * 1024, "{of_stack} bytes of the stack are guarded");
+    assert!(of_stack >= mivrozh::LOCKED_STACK, "{of_stack} bytes of the stack are guarded");
     assert!(others > 0, "no other memory is guarded");
 }

@@ -87,8 +87,8 @@ unsafe fn protect(start: *mut c_void, length: usize) {
 }
 
 /// How many bytes of the stack, below its caller, [`lock_stack`] locks: what is wiped after a call of the engine, and
-/// as much for the frames in between.
-pub const LOCKED_STACK: usize = 2 * WIPED_STACK;
+/// 16 KiB for the frames in between.
+pub const LOCKED_STACK: usize = WIPED_STACK + 16 * 1024;
 
 // How much more of the stack is touched than is locked. The lowest piece of a program's first stack grows, and what it
 // grows by is locked as it is, and counts: so that piece must not be the locked one, or a program at its limit of
@@ -99,8 +99,8 @@ const UNLOCKED_STACK: usize = 2 * PAGE;
 /// calls it, at its start: [`LOCKED_STACK`] bytes below the caller, for as long as the stack is there. The engine has
 /// keys in it while a call runs; afterwards the binding wipes it.
 ///
-/// What the system does not allow is left undone, and is no failure. A thread needs 48 KiB of stack for this beside
-/// what its own frames take.
+/// What the system does not allow is left undone, and is no failure. A thread needs 16 KiB more of stack for this than
+/// is locked, beside what its own frames take.
 #[inline(never)]
 pub fn lock_stack() {
     let mut room = [MaybeUninit::<u8>::uninit(); UNLOCKED_STACK + LOCKED_STACK];

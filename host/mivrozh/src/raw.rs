@@ -218,13 +218,13 @@ pub fn write(image: &mut [u8], key: &[u8], first: u64, units: u64, buffer: &[u8]
     })
 }
 
-/// A bound on the stack of a call. Measured by `tests/stack.rs` at 4,000 stripes and a key of 64 bytes, in bytes:
-/// format 4,947, add 6,131, open by number 6,627, open 6,723, change 6,835, revoke 682, read 5,715, write 5,731
-/// (optimised build).
-pub const MOST_STACK: usize = 8 * 1024;
+/// A bound on the stack of a call, in bytes; `include/mivrozh.h` has the same. Measured by `tests/stack.rs` at 4,000
+/// stripes and a key of 64 bytes: format 4,947, add 34,119, open by number 42,775, open 42,871, change 42,983, revoke
+/// 682, read 33,607, write 33,607.
+pub const MOST_STACK: usize = 56 * 1024;
 
-/// How many bytes of stack are wiped after each call.
-pub const WIPED_STACK: usize = 2 * MOST_STACK;
+/// How many bytes of stack are wiped after each call: as many, and 8 KiB for the frames around it.
+pub const WIPED_STACK: usize = MOST_STACK + 8 * 1024;
 
 // The room between the caller's frame and that of the engine's function, so that the wiping, whose own frame begins
 // where this room begins, covers all of the engine's frames.

@@ -1,45 +1,14 @@
 //! The C header: a program that uses it compiles without a warning, as C and as C++, runs, has no error of memory and
 //! leaves no secret behind.
-use std::path::{Path, PathBuf};
-use std::process::{Command, Output};
-
-fn host() -> PathBuf {
-    Path::new(env!("CARGO_MANIFEST_DIR")).parent().expect("host/").to_path_buf()
-}
-
-fn run(command: &mut Command) -> Output {
-    let output = command.output().unwrap_or_else(|error| panic!("{command:?}: {error}"));
-    let (said, errors) = (String::from_utf8_lossy(&output.stdout), String::from_utf8_lossy(&output.stderr));
-    assert!(output.status.success(), "{command:?}: {}\n{said}{errors}", output.status);
-    output
-}
-
-// Compiles a program against header and archive.
-fn compile(compiler: &str, source: &Path, name: &str) -> PathBuf {
-    compile_with(compiler, &[], &[source], name)
-}
-
-fn compile_with(compiler: &str, options: &[&str], sources: &[&Path], name: &str) -> PathBuf {
-    let program = Path::new(env!("CARGO_TARGET_TMPDIR")).join(name);
-    run(Command::new(compiler)
-        .args(["-g", "-Wall", "-Wextra", "-Werror", "-pedantic", "-I"])
-        .arg(host().join("include"))
-        .args(options)
-        .args(sources)
-        .arg(host().join("../target/staticlib/libcapi.a"))
-        .arg("-o")
-        .arg(&program));
-    program
-}
-
-fn of_tests(name: &str) -> PathBuf {
-    Path::new(env!("CARGO_MANIFEST_DIR")).join("tests").join(name)
-}
+mod programs;
+use programs::{compile, host, of_tests, run};
+use std::path::Path;
+use std::process::Command;
 
 #[test]
 fn the_example_runs() {
-    let program = compile("gcc", &host().join("c/example.c"), "example");
-    let said = String::from_utf8(run(&mut Command::new(program)).stdout).expect("text");
+    let program = compile("gcc", &[], &[&host().join("c/example.c")], "example");
+    let said = run(&mut Command::new(program));
     assert!(said.ends_with("all as expected\n"), "{said}");
 }
 
@@ -50,8 +19,8 @@ fn the_example_wipes_what_it_had() {
     let (example, looking) = (host().join("c/example.c"), of_tests("looking.c"));
     for level in ["-O0", "-O2"] {
         let wraps = ["-Wl,-z,now", "-Wl,--wrap=free", "-Wl,--wrap=printf", "-Wl,--wrap=mivrozh_format", level];
-        let program = compile_with("gcc", &wraps, &[&example, &looking], &format!("looking{level}"));
-        let said = String::from_utf8(run(&mut Command::new(program)).stdout).expect("text");
+        let program = compile("gcc", &wraps, &[&example, &looking], &format!("looking{level}"));
+        let said = run(&mut Command::new(program));
         assert!(said.ends_with("all as expected\n"), "{level}: {said}");
     }
 }
@@ -59,16 +28,28 @@ fn the_example_wipes_what_it_had() {
 #[test]
 fn the_stack_is_wiped_for_c() {
     for level in ["-O0", "-O2"] {
-        let program = compile_with("gcc", &["-pthread", level], &[&of_tests("stack.c")], &format!("stack{level}"));
-        let said = String::from_utf8(run(&mut Command::new(program)).stdout).expect("text");
+        let program = compile("gcc", &["-pthread", level], &[&of_tests("stack.c")], &format!("stack{level}"));
+        let said = run(&mut Command::new(program));
         assert!(said.ends_with("all as expected\n"), "{level}: {said}");
     }
+}
+
+// The binding and the header have each its own bound on the stack.
+#[test]
+fn the_header_has_the_bindings_stack() {
+    let source = Path::new(env!("CARGO_TARGET_TMPDIR")).join("bounds.c");
+    let text = "#include <mivrozh.h>\n\
+        #include <stdio.h>\n\
+        int main(void) { return printf(\"%d %d\", MIVROZH_MOST_STACK, MIVROZH_WIPED_STACK) < 0; }\n";
+    std::fs::write(&source, text).expect("a file in the target folder");
+    let said = run(&mut Command::new(compile("gcc", &[], &[&source], "bounds")));
+    assert_eq!(said, format!("{} {}", mivrozh::raw::MOST_STACK, mivrozh::raw::WIPED_STACK));
 }
 
 #[test]
 fn the_header_is_for_every_standard_of_c() {
     for standard in ["-std=c99", "-std=c11", "-std=c17"] {
-        let program = compile_with("gcc", &[standard], &[&host().join("c/example.c")], &format!("example{standard}"));
+        let program = compile("gcc", &[standard], &[&host().join("c/example.c")], &format!("example{standard}"));
         run(&mut Command::new(program));
     }
 }
@@ -83,7 +64,7 @@ fn the_header_is_for_cpp_too() {
             return number == 1 ? 0 : 1;\n\
         }\n";
     std::fs::write(&source, text).expect("a file in the target folder");
-    run(&mut Command::new(compile("g++", &source, "header-cpp")));
+    run(&mut Command::new(compile("g++", &[], &[&source], "header-cpp")));
 }
 
 #[test]
@@ -97,11 +78,11 @@ fn the_example_in_the_readme_compiles() {
         format!("{example}\nint main(void) {{ return first_units(0, 0, \"\", 0) == 1 ? 0 : 1; }}\n"),
     )
     .expect("a file");
-    run(&mut Command::new(compile("gcc", &source, "readme")));
+    run(&mut Command::new(compile("gcc", &[], &[&source], "readme")));
 }
 
 #[test]
 fn memcheck_finds_no_error() {
-    let program = compile("gcc", &host().join("c/example.c"), "example-memcheck");
+    let program = compile("gcc", &[], &[&host().join("c/example.c")], "example-memcheck");
     run(Command::new("valgrind").args(["--quiet", "--error-exitcode=1", "--leak-check=full"]).arg(program));
 }

@@ -12,7 +12,8 @@
 #include <string.h>
 #include <unistd.h>
 
-enum { KEY = 64, PIECE = 8, DEPTH = 12 * 1024 };
+/* Deeper than any call, and not below what the wiping has touched. */
+enum { KEY = 64, PIECE = 8, DEPTH = MIVROZH_MOST_STACK + 4096 };
 
 static const uint8_t *key;
 

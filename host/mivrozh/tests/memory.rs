@@ -109,6 +109,7 @@ fn a_refused_lock_is_no_failure() {
         opened();
     });
     with_limit(16 * PAGE as u64, || {
+        mivrozh::lock_stack();
         let (large, small) = (Secret::from(vec![1; 64 * PAGE]), Secret::from(vec![1; 64]));
         assert!(!has(&flags_of(large.expose().as_ptr()), "lo"));
         assert_eq!(has(&flags_of(small.expose().as_ptr()), "lo"), may_lock(PAGE));

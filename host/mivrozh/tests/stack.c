@@ -1,7 +1,8 @@
 /*
  * What the calls leave on the stack of a C program, and that mivrozh_wipe_stack takes it away. In the manner of stack.rs: each
  * call runs on a thread whose stack is memory of this program; when it has returned the thread spins, and pieces of the keys
- * are searched for in the stack as it lies there. They must be found without the wiping, and none with it.
+ * are searched for in the stack as it lies there. They must be found without the wiping, and none with it: then nothing but zeros
+ * is there, so no key in another form either.
  */
 #define _DEFAULT_SOURCE
 #include <mivrozh.h>
@@ -11,8 +12,9 @@
 #include <stdlib.h>
 #include <string.h>
 
-enum { STACK = 512 * 1024, KEY = 64, STRIPES = 9, COUNT = 1000, UNITS = 4, IMAGE = (80 + UNITS) * 512, PASSPHRASE = 64 };
-enum { RANDOM = (STRIPES - 1) * KEY, FILLER = STRIPES * KEY, DERIVED = 20, PIECE = 8 };
+enum { STACK = 512 * 1024, KEY = 64, STRIPES = 9, COUNT = 1000, UNITS = 40, IMAGE = (80 + UNITS) * 512, PASSPHRASE = 64 };
+/* OWN: what the frame of the thread itself may take below its upper end. */
+enum { RANDOM = (STRIPES - 1) * KEY, FILLER = STRIPES * KEY, DERIVED = 20, PIECE = 8, OWN = 256 };
 enum call { FORMAT, ADD, OPEN_SLOT, OPEN, CHANGE, READ, WRITE, CALLS };
 
 static const char *const NAMES[CALLS] = {"format", "add", "open_slot", "open", "change", "read", "write"};
@@ -22,6 +24,7 @@ static const uint8_t UUID[] = "6a2b1f0e-3c4d-4e5f-8a9b-0c1d2e3f4a5b";
 static uint8_t image[IMAGE], key[KEY], passphrase[PASSPHRASE], salt[32], random_bytes[RANDOM], filler[FILLER];
 static uint8_t buffer[UNITS * 512], opened[66], derived[DERIVED];
 static uint8_t *stack;
+static const uint8_t *frame;
 
 static enum call call;
 static int wipes, number, done, released;
@@ -58,6 +61,7 @@ static int make(enum call which) {
 }
 
 static void *thread(void *nothing) {
+    frame = __builtin_frame_address(0);
     number = make(call);
     if (wipes) mivrozh_wipe_stack();
     __atomic_store_n(&done, 1, __ATOMIC_RELEASE);
@@ -80,11 +84,23 @@ static unsigned pieces(const uint8_t *secret, size_t length) {
     return found;
 }
 
-/* The pieces of the keys that the call leaves, on a drive whose slot 1 has the passphrase. */
-static unsigned left_by(enum call which, int with_wiping) {
+/* How many bytes below the thread's own frame are not zero. */
+static unsigned bytes_below(void) {
+    unsigned found = 0;
+    for (const uint8_t *at = stack; at < frame - OWN; at++) found += *at != 0;
+    return found;
+}
+
+/* What a call leaves on the stack. */
+struct left {
+    unsigned pieces, bytes;
+};
+
+/* On a drive whose slot 1 has the passphrase. */
+static struct left left_by(enum call which, int with_wiping) {
     pthread_attr_t attributes;
     pthread_t id;
-    unsigned found;
+    struct left found;
     must(make(FORMAT) == 0, "a drive is made");
     must(mivrozh_add(image, IMAGE, 1, key, KEY, passphrase, PASSPHRASE, salt, COUNT, random_bytes, RANDOM) == 0, "slot 1");
     memset(stack, 0, STACK);
@@ -93,7 +109,8 @@ static unsigned left_by(enum call which, int with_wiping) {
     must(pthread_create(&id, &attributes, thread, NULL) == 0, "a thread");
     while (!__atomic_load_n(&done, __ATOMIC_ACQUIRE)) {
     }
-    found = pieces(key, KEY) + pieces(derived, DERIVED) + pieces(passphrase, PASSPHRASE);
+    found.pieces = pieces(key, KEY) + pieces(derived, DERIVED) + pieces(passphrase, PASSPHRASE);
+    found.bytes = bytes_below();
     __atomic_store_n(&released, 1, __ATOMIC_RELEASE);
     must(pthread_join(id, NULL) == 0, "the thread ends");
     pthread_attr_destroy(&attributes);
@@ -110,9 +127,10 @@ int main(void) {
     must(mivrozh_format(image, IMAGE, 2, 1, passphrase, PASSPHRASE, salt, COUNT, UUID, 36) == 0, "the derived key");
     memcpy(derived, image + 112, DERIVED);
     for (enum call which = FORMAT; which < CALLS; which++) {
-        unsigned bare = left_by(which, 0), wiped = left_by(which, 1);
-        printf("%-9s leaves %u pieces of keys, and %u after the wiping\n", NAMES[which], bare, wiped);
-        well = well && bare > 0 && wiped == 0;
+        struct left bare = left_by(which, 0), wiped = left_by(which, 1);
+        printf("%-9s leaves %u pieces of keys in %u bytes, and %u in %u after the wiping\n", NAMES[which], bare.pieces, bare.bytes,
+               wiped.pieces, wiped.bytes);
+        well = well && bare.pieces > 0 && bare.bytes > 0 && wiped.pieces == 0 && wiped.bytes == 0;
     }
     free(stack);
     puts(well ? "all as expected" : "not as expected");

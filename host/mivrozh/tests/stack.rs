@@ -10,10 +10,14 @@ const STACK: usize = 512 * 1024;
 const PAINT: u8 = 0xA5;
 const STRIPES: u32 = 4000;
 const LENGTH: usize = 64;
-const UNITS: usize = 8;
+// More than 32, and not a multiple of it.
+const UNITS: usize = 40;
 const IMAGE: usize = (4037 + UNITS) * 512;
 const COUNT: u32 = 1000;
 const UUID: &[u8; 36] = b"6a2b1f0e-3c4d-4e5f-8a9b-0c1d2e3f4a5b";
+
+// What a user must have for a call.
+const _: () = assert!(raw::MOST_STACK < 64 * 1024, "the stack of a call stays below 64 KiB");
 
 type In = *const u8;
 type Out = *mut u8;

@@ -1,9 +1,9 @@
-//! Every call runs in a thread with 64 KiB of stack, the binding's wiping included. A call that needed more would end
-//! the test program by a fault.
+//! Every call of the binding runs in a thread whose stack has what is wiped after it and 16 KiB more. A call that
+//! needed more would end the test program by a fault.
 
 use mivrozh::raw;
 
-const STACK: usize = 64 * 1024;
+const STACK: usize = raw::WIPED_STACK + 16 * 1024;
 
 fn calls(image: &mut [u8], numbers: &mut [u8; 8]) {
     let (key, salt, stripes, filler) = ([5; 64], [6; 32], [7; 64], [8; 128]);
@@ -20,7 +20,7 @@ fn calls(image: &mut [u8], numbers: &mut [u8; 8]) {
 }
 
 #[test]
-fn every_call_runs_in_64_kib_of_stack() {
+fn every_call_runs_in_little_more_stack_than_is_wiped() {
     let (mut image, mut numbers) = (vec![0; 66 * 512], [255; 8]);
     std::thread::scope(|scope| {
         let thread = std::thread::Builder::new().stack_size(STACK);

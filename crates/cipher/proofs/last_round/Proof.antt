@@ -1,0 +1,26 @@
+-- `cipher::last_round` meets its contract.
+use Rattle.cipher.proofs.RoundLaws.{last-each}
+use borrow.Author.Needs.{needs}
+use Rattle.cipher.proofs.last_round.Statement.{statement}
+use Rattle.cipher.proofs.last_round.Tie as tie
+
+shift-rows-requires : tie.Need-shift-rows-requires
+shift-rows-requires c κs = search needs
+
+sub-bytes-requires : tie.Need-sub-bytes-requires
+sub-bytes-requires c κs = search needs
+
+xor-words-requires : tie.Need-xor-words-requires
+xor-words-requires c κs = search needs
+
+returns : tie.Need-returns
+returns c =
+    let a = c .before .before .before .before .before .before .before .before .args in
+    let x = c .before .before .before .before .shift-rows in
+    let y = c .before .before .sub-bytes in
+    let r = c .xor-words in
+    (r .ensures .0, λ j h. last-each (a .q .now) (r .last .0) (a .k .now) j h (x .last .0) (y .last .0) (a .l .now) (x .ensures .1 j h) (y .ensures .1) (r .ensures .1))
+
+pub last-round-spec : {M : Type 1} → statement M
+last-round-spec =
+    tie.close (tie.spec shift-rows-requires sub-bytes-requires xor-words-requires returns)

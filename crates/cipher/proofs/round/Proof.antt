@@ -1,0 +1,26 @@
+-- `cipher::round` meets its contract.
+use Rattle.cipher.proofs.RoundLaws.{round-each}
+use borrow.Author.Needs.{needs}
+use Rattle.cipher.proofs.round.Statement.{statement}
+use Rattle.cipher.proofs.round.Tie as tie
+
+shift-rows-requires : tie.Need-shift-rows-requires
+shift-rows-requires c κs = search needs
+
+sub-bytes-requires : tie.Need-sub-bytes-requires
+sub-bytes-requires c κs = search needs
+
+mix-columns-requires : tie.Need-mix-columns-requires
+mix-columns-requires c κs = search needs
+
+returns : tie.Need-returns
+returns c =
+    let a = c .before .before .before .before .before .before .before .args in
+    let x = c .before .before .before .before .shift-rows in
+    let y = c .before .before .sub-bytes in
+    let r = c .mix-columns in
+    (r .ensures .0, λ j h. round-each (a .q .now) (r .last .0) (a .k .now) j h (x .last .0) (y .last .0) (x .ensures .1 j h) (y .ensures .1) (r .ensures .1))
+
+pub round-spec : {M : Type 1} → statement M
+round-spec =
+    tie.close (tie.spec shift-rows-requires sub-bytes-requires mix-columns-requires returns)

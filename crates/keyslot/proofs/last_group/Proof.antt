@@ -1,0 +1,31 @@
+-- `keyslot::last_group` meets its contract.
+use mathlib.Core.Path.{ap, _∙_}
+use lib.ListN.{length}
+use Rattle.sha1.specs.Sha1.{sha1}
+use Rattle.suite.specs.Split.{mergeFrom}
+use Rattle.splitter.specs.Diffuse.{diffuse}
+use borrow.Author.Needs.{needs}
+use Rattle.keyslot.proofs.last_group.Statement.{statement}
+use Rattle.keyslot.proofs.last_group.Tie as tie
+
+decipher-requires : tie.Need-decipher-requires
+decipher-requires c κs = search needs
+
+merge-from-requires : tie.Need-merge-from-requires
+merge-from-requires c κs = search needs
+
+same-length : tie.Need-same-length
+same-length c = search needs
+
+same-length-2 : tie.Need-same-length-2
+same-length-2 c = search needs
+
+returns : tie.Need-returns
+returns c =
+    let a = c .before .before .before .before .before .before .before .before .before .before .before .before .before .before .args in
+    λ f g. c .before .before .merge-from .ensures
+    ∙ ap (mergeFrom (diffuse sha1) (length (a .d .now)) (a .d .now) (a .m)) (c .before .before .before .before .before .before .before .decipher .ensures f g)
+
+pub last-group-spec : {M : Type 1} → statement M
+last-group-spec =
+    tie.close (tie.spec decipher-requires merge-from-requires same-length same-length-2 returns)

@@ -1,0 +1,190 @@
+-- `keyslot::merge_groups` meets its contract. Merging from the block d what is left of the area gives what is wanted.
+use mathlib.Core.Bool.{false}
+use mathlib.Core.Path.{_≡_, refl, sym, ap, _∙_}
+use mathlib.Core.List.{List}
+use Prim.Native.Nat.{ℕ, _+_, _-_, _*_, _/_, _%_, _≤_, _<_}
+use native.Mathlib.Nat.{mul-le-mul-right}
+use native.Mathlib.Omega.{arith}
+use lib.ListN.{length, take, drop, length-replicate}
+use lib.Seq.{length-take-le}
+use Rattle.octets.specs.Splice.{slice}
+use Rattle.octets.proofs.SpliceLaws.{length-slice}
+use Rattle.sha1.specs.Sha1.{sha1}
+use Rattle.suite.specs.Split.{mergeFrom}
+use Rattle.suite.specs.Units.{inUnits}
+use Rattle.suite.proofs.SplitLaws.{last-stripe}
+use Rattle.splitter.specs.Diffuse.{diffuse}
+use Rattle.splitter.proofs.StripesLaws.{merge-is}
+use Rattle.xts.specs.Keys.{Under}
+use Rattle.xts.proofs.KeysLaws.{length-under}
+use Rattle.keyslot.proofs.AreaLaws.{whole-blocks, more-left, less-left, merge-more, merge-end}
+use borrow.Author.Needs.{needs}
+use Rattle.keyslot.proofs.merge_groups.Statement.{statement}
+use Rattle.keyslot.proofs.merge_groups.Tie as tie
+
+abbrev Inv-loop : tie.InvT-loop
+Inv-loop d₀ area n ks vs rounds per len b₀ at₀ left₀ d b at left =
+    (at < len) × (at % 16 ≡ 0) × (1 ≤ left) × (left * length d₀ ≡ len - at) × (length d ≡ length d₀) × (length b ≡ 16384)
+    × ((f : ℕ → List ℕ → List ℕ) → Under false rounds ks vs f
+    → mergeFrom (diffuse sha1) (length d₀) d (left - 1) (inUnits f (at / 512) (drop at area)) ≡ mergeFrom (diffuse sha1) (length d₀) d₀ (n - 1) (inUnits f 0 area))
+
+abbrev μ-loop : tie.MeasureT-loop
+μ-loop d₀ area n ks vs rounds per len b₀ at₀ left₀ d b at left = len - at
+
+clear-requires : tie.Need-clear-requires Inv-loop μ-loop
+clear-requires c κs = search needs
+
+per-group-requires : tie.Need-per-group-requires Inv-loop μ-loop
+per-group-requires c κs = search needs
+
+loop-holds : tie.Need-loop-holds Inv-loop μ-loop
+loop-holds c =
+    let s = c .before .before .before .before .before .before .before .before .before in
+    let L = length (c .before .before .before .clear .last .0) in
+    let e : L ≡ length (s .args .d .now) = search needs in
+    let b : s .args .n * L ≡ length (s .args .area .now) = ap (λ (k : ℕ). s .args .n * k) e ∙ s .pre .1 in
+    let m : 1 * L ≤ s .args .n * L = mul-le-mul-right L (s .pre .0) in
+    (omega arith, omega arith, omega arith, omega arith, refl, length-replicate {A = ℕ} 16384 0, λ f g. refl)
+
+sub-loop : tie.Need-sub-loop Inv-loop μ-loop
+sub-loop c = search needs
+
+add-e : tie.Need-add-e Inv-loop μ-loop
+add-e c = search needs
+
+slice-aggregate-whole-group : tie.Need-slice-aggregate-whole-group Inv-loop μ-loop
+slice-aggregate-whole-group c = search needs
+
+sub-whole-group : tie.Need-sub-whole-group Inv-loop μ-loop
+sub-whole-group c = search needs
+
+part-whole-group-start : tie.Need-part-whole-group-start Inv-loop μ-loop
+part-whole-group-start c = search needs
+
+part-whole-group-end : tie.Need-part-whole-group-end Inv-loop μ-loop
+part-whole-group-end c = search needs
+
+whole-group-requires : tie.Need-whole-group-requires Inv-loop μ-loop
+unfolding slice
+whole-group-requires c κs =
+    let w = c .before .before .before .before in
+    let l = w .loop in
+    let s = w .before .before .before .before .before .before .before .before .before .before in
+    let x = take (l .at + 16384 - l .at) (drop (l .at) (s .args .area .now)) in
+    let k : length x ≡ l .at + 16384 - l .at = length-slice (s .args .area .now) (l .at) (l .at + 16384 - l .at) (omega arith) in
+    let n : length x ≡ 16384 = k ∙ omega arith in
+    let p = w .before .per-group in
+    (l .inv .5 ∙ sym n, omega (arith, n), omega (arith, n), s .pre .5, s .pre .6, n ∙ sym (ap (λ (j : ℕ). p .result * j) (l .inv .4) ∙ p .ensures), omega arith)
+
+sub-left : tie.Need-sub-left Inv-loop μ-loop
+sub-left c =
+    let w = c .before .before .before .before .before .before .before .before in
+    let h = more-left (length (w .before .before .before .before .clear .last .0)) (w .before .per-group .result) (w .loop .left) (w .before .per-group .ensures) (omega arith) in
+    omega (arith, h)
+
+loop-less : tie.Need-loop-less Inv-loop μ-loop
+loop-less c = search needs
+
+loop-again : tie.Need-loop-again Inv-loop μ-loop
+unfolding slice
+loop-again c =
+    let w = c .before .before .before .before .before .before .before .before in
+    let l = w .loop in
+    let p = w .before .per-group in
+    let d₁ = w .before .before .before .before .clear .last .0 in
+    let L = length d₁ in
+    let a = w .before .before .before .before .before .before .before .before .before .before .args in
+    let h : p .result < l .left = more-left L (p .result) (l .left) (p .ensures) (omega arith) in
+    let x = take (l .at + 16384 - l .at) (drop (l .at) (a .area .now)) in
+    let k : length x ≡ 16384 = length-slice (a .area .now) (l .at) (l .at + 16384 - l .at) (omega arith) ∙ omega arith in
+    let y = c .before .before .before .whole-group in (
+      omega arith,
+      omega arith,
+      omega arith,
+      less-left L (p .result) (l .left) (p .ensures) (length (a .area .now) - l .at) h (l .inv .3) ∙ omega arith,
+      search needs,
+      search needs,
+      λ f g. merge-more (diffuse sha1) L f (l .at) (l .at / 512) (l .left) (l .d) (y .last .0) (a .area .now) _ (l .inv .4) (l .inv .6 f g) (p .result) _ h (p .ensures) (omega arith)
+          (length-under false (a .rounds) (a .ks .now) (a .vs .now) f g (l .at / 512) x (omega (arith, k)) ∙ k)
+          (y .ensures f g),
+    )
+
+sub-k : tie.Need-sub-k Inv-loop μ-loop
+sub-k c = search needs
+
+array-borrow-prefix-b : tie.Need-array-borrow-prefix-b Inv-loop μ-loop
+array-borrow-prefix-b c = search needs
+
+slice-aggregate-last-group : tie.Need-slice-aggregate-last-group Inv-loop μ-loop
+slice-aggregate-last-group c =
+    let l = c .before .before .before .loop in
+    let n : length (l .b) ≡ 16384 = l .inv .5 in
+    sym (length-take-le _ (l .b) (omega arith))
+
+sub-last-group : tie.Need-sub-last-group Inv-loop μ-loop
+sub-last-group c = search needs
+
+part-last-group-start : tie.Need-part-last-group-start Inv-loop μ-loop
+part-last-group-start c = search needs
+
+part-last-group-end : tie.Need-part-last-group-end Inv-loop μ-loop
+part-last-group-end c = search needs
+
+sub-last-group-2 : tie.Need-sub-last-group-2 Inv-loop μ-loop
+sub-last-group-2 c = search needs
+
+last-group-requires : tie.Need-last-group-requires Inv-loop μ-loop
+unfolding slice
+last-group-requires c κs =
+    let w = c .before .before .before .before in
+    let l = w .loop in
+    let s = w .before .before .before .before .before .before .before .before .before .before in
+    let N = length (s .args .area .now) in
+    let j : length (l .b) ≡ 16384 = l .inv .5 in
+    let k : length (take (N - l .at) (drop (l .at) (s .args .area .now))) ≡ N - l .at = length-slice (s .args .area .now) (l .at) (N - l .at) (omega arith) in
+    let b : (l .left - 1) * length (l .d) + length (l .d) ≡ N - l .at = last-stripe (l .left) (length (l .d)) (l .inv .2) ∙ ap (λ (n : ℕ). l .left * n) (l .inv .4) ∙ l .inv .3 in
+    let m : N % 16 ≡ 0 = whole-blocks (s .args .n) (length (s .args .d .now)) N (s .pre .1) (s .pre .4) in
+    (length-take-le (N - l .at) (l .b) (omega arith) ∙ sym k, omega (arith, k, m), omega (arith, k), s .pre .5, s .pre .6, k ∙ sym b, omega arith)
+
+same-length : tie.Need-same-length Inv-loop μ-loop
+same-length c = search needs
+
+returns : tie.Need-returns Inv-loop μ-loop
+returns c =
+    let w = c .before .before .before .before .before .before .before .before in
+    let l = w .loop in
+    let d = w .before .before .before .before .clear in
+    let a = w .before .before .before .before .before .before .before .before .before .before .args in
+    let e : length (d .last .0) ≡ length (a .d .now) = search needs in
+    λ f g. merge-is (diffuse sha1) (length (a .d .now)) (a .n) (d .last .0) _ (inUnits f 0 (a .area .now)) e (d .ensures)
+    (merge-end (diffuse sha1) (length (d .last .0)) f (l .at) (l .at / 512) (l .left) (l .d) _ (a .area .now) _ (l .inv .4) (l .inv .6 f g) (c .before .before .before .last-group .ensures f g))
+
+pub merge-groups-spec : {M : Type 1} → statement M
+merge-groups-spec =
+    tie.close
+    (tie.spec
+    Inv-loop
+    μ-loop
+    clear-requires
+    per-group-requires
+    loop-holds
+    sub-loop
+    add-e
+    slice-aggregate-whole-group
+    sub-whole-group
+    part-whole-group-start
+    part-whole-group-end
+    whole-group-requires
+    sub-left
+    loop-less
+    loop-again
+    sub-k
+    array-borrow-prefix-b
+    slice-aggregate-last-group
+    sub-last-group
+    part-last-group-start
+    part-last-group-end
+    sub-last-group-2
+    last-group-requires
+    same-length
+    returns)

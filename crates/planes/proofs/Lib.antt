@@ -1,0 +1,4 @@
+pub mod RowLaws
+pub mod ShiftLaws
+pub mod ExchangeLaws
+pub mod CellLaws

@@ -1,0 +1,92 @@
+-- `planes::shift_rows` meets its contract.
+use mathlib.Core.Path.{_≡_}
+use Prim.Native.Nat.{_-_, _*_, _≤_, _<_}
+use native.Mathlib.Omega.{arith}
+use Rattle.planes.proofs.RowLaws.{Rows, rows-none}
+use Rattle.planes.proofs.ShiftLaws.{left, turnedRow, plane-more, shifted}
+use borrow.Author.Needs.{needs}
+use Rattle.planes.proofs.shift_rows.Statement.{statement}
+use Rattle.planes.proofs.shift_rows.Tie as tie
+
+abbrev Inv-loop : tie.InvT-loop
+Inv-loop q₀ k i₀ q i = (i ≤ 8) × Rows (turnedRow left left q₀ k) q₀ (4 * i) q
+
+abbrev μ-loop : tie.MeasureT-loop
+μ-loop q₀ k i₀ q i = 8 - i
+
+loop-holds : tie.Need-loop-holds Inv-loop μ-loop
+loop-holds c =
+    let q = c .before .args .q .now in
+    let k = c .before .args .k .now in
+    (omega arith, rows-none (turnedRow left left q k) q (c .before .pre .0))
+
+mul-g : tie.Need-mul-g Inv-loop μ-loop
+mul-g c = search needs
+
+turn-row-requires : tie.Need-turn-row-requires Inv-loop μ-loop
+turn-row-requires c κs = search needs
+
+add-turn-row : tie.Need-add-turn-row Inv-loop μ-loop
+add-turn-row c = search needs
+
+turn-row-requires-2 : tie.Need-turn-row-requires-2 Inv-loop μ-loop
+turn-row-requires-2 c κs = search needs
+
+add-turn-row-2 : tie.Need-add-turn-row-2 Inv-loop μ-loop
+add-turn-row-2 c = search needs
+
+turn-row-requires-3 : tie.Need-turn-row-requires-3 Inv-loop μ-loop
+turn-row-requires-3 c κs = search needs
+
+add-turn-row-3 : tie.Need-add-turn-row-3 Inv-loop μ-loop
+add-turn-row-3 c = search needs
+
+turn-row-requires-4 : tie.Need-turn-row-requires-4 Inv-loop μ-loop
+turn-row-requires-4 c κs = search needs
+
+add-i : tie.Need-add-i Inv-loop μ-loop
+add-i c = search needs
+
+loop-less : tie.Need-loop-less Inv-loop μ-loop
+loop-less c = search needs
+
+loop-again : tie.Need-loop-again Inv-loop μ-loop
+loop-again c =
+    let l = c .before .before .before .before .before .before .before .before .before .loop in
+    let a = c .before .before .before .before .before .before .before .before .before .before .before .args in
+    let x = c .before .before .before .before .before .before .turn-row in
+    let y = c .before .before .before .before .turn-row2 in
+    let z = c .before .before .turn-row3 in
+    let w = c .turn-row4 in
+    let h : l .i < 8 = search needs in (
+      omega arith,
+      plane-more left left (a .q .now) (a .k .now) (l .i) (l .q) (x .last .0) (y .last .0) (z .last .0) (w .last .0) h (x .ensures .1) (y .ensures .1) (z .ensures .1)
+          (w .ensures .1) (l .inv .1),
+    )
+
+returns : tie.Need-returns Inv-loop μ-loop
+returns c =
+    let l = c .before .loop in
+    let a = c .before .before .before .args in
+    let e : 4 * l .i ≡ 32 = omega arith in
+    (l .inv .1 .size, λ j h. shifted (a .q .now) (a .k .now) (l .q) (rw e at (l .inv .1)) j)
+
+pub shift-rows-spec : {M : Type 1} → statement M
+shift-rows-spec =
+    tie.close
+    (tie.spec
+    Inv-loop
+    μ-loop
+    loop-holds
+    mul-g
+    turn-row-requires
+    add-turn-row
+    turn-row-requires-2
+    add-turn-row-2
+    turn-row-requires-3
+    add-turn-row-3
+    turn-row-requires-4
+    add-i
+    loop-less
+    loop-again
+    returns)

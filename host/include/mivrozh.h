@@ -6,8 +6,9 @@
  * target/staticlib/libcapi.a). The library needs memcpy and memset, has no global state, allocates nothing and makes no
  * system call; the stack of a call stays below MIVROZH_MOST_STACK bytes. Calls on different images may run at the same time.
  *
- * RESULT. 0: accepted. Else the number of the first check that failed, in the order each call lists; then image and buffers
- * are as they were before, and an opening has filled its buffer with zeros.
+ * RESULT. 0: accepted. Else the number of the first check that failed, in the order each call lists; then the image and every
+ * lent buffer are as they were before. The 66 bytes of an opening are no such buffer: they are its answer, beside the number,
+ * and every opening fills them, a refused one with zeros.
  *
  * WHAT THE CALLER OWES.
  *   - A pointer with a length n points to n readable bytes (writable ones where it is not const). Where the length is 0 any

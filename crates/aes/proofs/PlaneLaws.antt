@@ -1,9 +1,9 @@
 -- The steps of a round on bit planes, as the state in each lane sees them.
 use mathlib.Core.Path.{_≡_, refl, sym, ap, ap₂, _∙_, subst}
-use mathlib.Core.Bool.{Bool, true, false}
+use mathlib.Core.Bool.{Bool, true}
 use mathlib.Core.Logic.{⊎-elim}
-use mathlib.Core.List.{List, [], _∷_, _++_, map}
-use Prim.Native.Nat.{ℕ, zero, suc, _+_, _-_, _*_, _/_, _%_, _<_, _≤_}
+use mathlib.Core.List.{List, [], _∷_, map}
+use Prim.Native.Nat.{ℕ, zero, suc, _+_, _-_, _/_, _%_, _<_, _≤_}
 use native.Mathlib.Nat.{eq-or-lt-of-le}
 use native.Mathlib.Omega.{arith}
 use lib.Bits.{bitXor}
@@ -11,15 +11,15 @@ use lib.Dec.{T, ltb, ltb→lt}
 use lib.ListN.{length, getD, set, length-set}
 use lib.Seq.{getD-set-same, getD-set-other}
 use Rattle.octets.specs.Octets.{Bytes, _⊕_, xors}
-use Rattle.octets.proofs.TableLaws.{both, both-left, both-right, below-at, same-below}
-use Rattle.octets.proofs.XorLaws.{⊕-is, ⊕-assoc, ⊕-left, ⊕-comm, ⊕-self, ⊕-zero, zero-⊕, ⊕-byte}
+use Rattle.octets.proofs.TableLaws.{both, both-left, both-right}
+use Rattle.octets.proofs.XorLaws.{⊕-is, ⊕-assoc, ⊕-left, ⊕-comm}
 use Rattle.gf256.specs.Field.{xtime}
-use Rattle.gf256.proofs.FieldLaws.{xtime-byte, xtime-⊕, mul-1, mul-2, mul-3, mul-9, mul-11, mul-13, mul-14}
+use Rattle.gf256.proofs.FieldLaws.{xtime-⊕, mul-1, mul-2, mul-3}
 use Rattle.bitslice.specs.Words.{laneByte, xorWords, doubledWords}
 use Rattle.bitslice.proofs.LanesLaws.{xor-byte, length-xorWords, double-byte, laneByte-byte}
 use Rattle.aes.specs.Aes.{dot, mixWords, mixColumns}
-use Rattle.aes.specs.Planes.{cell, places, state, Each, Sum, premix}
-use Rattle.aes.specs.Columns.{elems, at4, row0, row1, row2, row3, mixRow, mixOf, premixOf}
+use Rattle.aes.specs.Planes.{cell, places, state, Each, Sum}
+use Rattle.aes.specs.Columns.{elems, at4, row0, row1, row2, row3, mixRow, mixOf}
 
 -- ---- the sixteen places
 
@@ -44,14 +44,6 @@ unfolding state
 bytes-state j q = bytes-list (λ p. laneByte j (cell p q)) (λ p. laneByte-byte j (cell p q) refl) places
 
 -- ---- MIXCOLUMNS
-
-pub length-mixOf : (x : List ℕ) → length (mixOf x) ≡ 32
-unfolding mixOf xorWords
-length-mixOf x = refl
-
-pub length-premixOf : (x : List ℕ) → length (premixOf x) ≡ 32
-unfolding premixOf xorWords
-length-premixOf x = refl
 
 -- eight words at equal indices
 eight-words : (q : List ℕ) (a b c d e f g h a′ b′ c′ d′ e′ f′ g′ h′ : ℕ) → a ≡ a′ → b ≡ b′ → c ≡ c′ → d ≡ d′ → e ≡ e′ → f ≡ f′ → g ≡ g′ → h ≡ h′

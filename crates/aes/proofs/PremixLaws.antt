@@ -1,18 +1,18 @@
 -- INVMIXCOLUMNS in two steps on bit planes: each byte with 4 times its sum with the byte two rows below, and then MIXCOLUMNS.
 use mathlib.Core.Path.{_≡_, refl, sym, ap, ap₂, _∙_}
-use mathlib.Core.List.{List, [], _∷_, map}
-use Prim.Native.Nat.{ℕ, zero, suc, _+_, _%_, _<_}
+use mathlib.Core.List.{List, [], _∷_}
+use Prim.Native.Nat.{ℕ, _+_, _%_, _<_}
 use native.Mathlib.Omega.{arith}
 use lib.Bits.{bitXor}
 use lib.ListN.{length}
 use Rattle.octets.specs.Octets.{Bytes, _⊕_}
-use Rattle.octets.proofs.XorLaws.{⊕-is, ⊕-assoc, ⊕-left, ⊕-comm, ⊕-self, ⊕-zero, zero-⊕, ⊕-byte}
+use Rattle.octets.proofs.XorLaws.{⊕-assoc, ⊕-left, ⊕-comm, ⊕-self, zero-⊕, ⊕-byte}
 use Rattle.gf256.specs.Field.{xtime}
 use Rattle.gf256.proofs.FieldLaws.{xtime-byte, xtime-⊕, mul-1, mul-2, mul-3, mul-9, mul-11, mul-13, mul-14}
 use Rattle.bitslice.specs.Words.{laneByte, xorWords, doubledWords}
-use Rattle.bitslice.proofs.LanesLaws.{xor-byte, double-byte, laneByte-byte}
+use Rattle.bitslice.proofs.LanesLaws.{xor-byte, double-byte}
 use Rattle.aes.specs.Aes.{dot, mixWords, mixColumns, invMixColumns}
-use Rattle.aes.specs.Planes.{cell, places, state, Each, premix}
+use Rattle.aes.specs.Planes.{cell, state, Each, premix}
 use Rattle.aes.specs.Columns.{elems, at4}
 use Rattle.aes.specs.Columns.{row0, row1, row2, row3, premixRow, premixOf}
 use Rattle.aes.proofs.PlaneLaws.{length-words, cell-row0, cell-row1, cell-row2, cell-row3, of-rows, same-places, bytes-state}

@@ -1,7 +1,7 @@
 -- The circuit at words is the S-box of FIPS 197 at the byte in each bit position: the circuit commutes with taking a bit, and at bits one
 -- test goes through all 256 bytes. The same for the inverse.
 use mathlib.Core.Path.{_≡_, refl, sym, ap, ap₂, _∙_, subst}
-use mathlib.Core.Bool.{Bool, true, false}
+use mathlib.Core.Bool.{Bool}
 use mathlib.Core.List.{List, [], _∷_, _++_, map}
 use Prim.Native.Nat.{ℕ, zero, suc, _+_, _-_, _*_, _/_, _%_, _^_, _<_}
 use native.Mathlib.Omega.{arith}
@@ -9,7 +9,7 @@ use native.Mathlib.Nat.{mod-lt, zero-lt-suc, zero-div, pow-suc}
 use lib.Dec.{T, eqb, eqb→eq}
 use lib.Pow.{shr-shr, shl-shr, field, mod-mod-pow}
 use lib.Bits.{bitXor, bitAnd, xor-shr, xor-mod, and-shr, and-mod, xor-block}
-use lib.ListN.{length, getD, List·getD-map, length-map}
+use lib.ListN.{length, getD, List·getD-map}
 use Rattle.octets.specs.Octets.{_⊕_}
 use Rattle.octets.proofs.XorLaws.{digit}
 use Rattle.octets.proofs.TableLaws.{both, both-left, both-right, same-below}

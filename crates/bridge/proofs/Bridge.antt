@@ -1,96 +1,118 @@
--- From each contract to `step`: the premise is the function's `ensures`, the conclusion the whole step.
+-- From the contracts to the rules: what a function ensures is the whole step, and a trace of calls is the run of which the theorem speaks.
 use mathlib.Core.Path.{_≡_, refl, sym, ap, _∙_}
-use mathlib.Core.List.{List, [], _++_}
+use mathlib.Core.List.{List, [], _∷_, _++_, map}
 use mathlib.Core.Bool.{Bool, true, false}
 use Prim.Native.Nat.{ℕ}
 use lib.Dec.{eqb}
+use borrow.Author.Tests.{eq-eqb}
 use Rattle.octets.proofs.BoolLaws.{no}
 use Rattle.rules.specs.Checks.{first}
 use Rattle.rules.specs.Facts.{Facts, factsOf}
 use Rattle.rules.specs.Header.{headerChecks}
-use Rattle.rules.specs.Calls.{Call, add, change, revoke, openSlot, openAny, read, write, checks, done, answer, opened, noKey, refused, bufferAfter}
-use Rattle.rules.specs.Step.{writes, written, settle, step}
+use Rattle.rules.specs.Calls as calls
+use Rattle.rules.specs.Calls.{Call, add, change, revoke, openSlot, openAny, read, write, checks, done, answer, noKey, refused, bufferAfter}
+use Rattle.rules.specs.Step.{Run, writes, written, settle, step, run}
 use Rattle.rules.specs.Format.{FormatInput, format}
-use Rattle.built.specs.Built.{built}
-use Rattle.header.specs.declared.Refusal.{Refusal}
-use Rattle.header.specs.Refusals.{number}
-use Rattle.opening.specs.declared.Opened.{Opened}
-use Rattle.opening.specs.Opening.{IsAnswer}
-use Rattle.bridge.specs.Returned.{returnsNumber, numberAnswer, isOpening, openedAnswer, readAnswer}
+use Rattle.rules.specs.Contracts.{DoesFormat}
+use Rattle.profiles.specs.Suites.{built}
+use Rattle.ledger.specs.Demand3.{FormatTyped, AllTyped}
+use Rattle.ledger.proofs.Built.{demand-3-built}
+use Rattle.bridge.specs.Trace.{Returned, changed, opened, filled, Kind, changing, opening, reading, kindOf, bufferOf, Ensured, imageLeft, answerIn, Trace, lastLeft, FollowsLedger}
 
--- ---- format (formatting::format)
+-- a call of one kind is of no other
+abbrev rank : Kind → ℕ
+rank changing = 0
+rank opening = 1
+rank reading = 2
 
-pub format-is : (a : FormatInput) (image after : List ℕ) (r : Refusal) → number r ≡ format built a image .code → after ≡ format built a image .image
-    → format built a image ≡ record { code = number r; image = after }
-format-is a image after r e i = λ j. record { code = sym e j; image = sym i j }
+other : {A : Type 0} {k l : Kind} → k ≡ l → eqb (rank k) (rank l) ≡ false → A
+other {k = k} {l = l} e d = no (sym d ∙ eq-eqb (rank k) (rank l) (ap rank e))
 
--- ---- add, change, revoke, write (adding::add, changing::change, revoking::revoke, payload::write)
+-- ---- a step of each kind: what it says, and what it leaves alone
 
-module _ (f : Facts) (image : List ℕ) where
-  number-settled : (c : Call) → returnsNumber c ≡ true → (r : ℕ) (b : Bool) → settle f c image r b .said ≡ numberAnswer (settle f c image r b .said .code)
-  unfolding settle returnsNumber numberAnswer answer done refused noKey
-  number-settled (add k key x) h r true = refl
-  number-settled (add k key x) h r false = refl
-  number-settled (change k passphrase to x filler) h r true = refl
-  number-settled (change k passphrase to x filler) h r false = refl
-  number-settled (revoke k filler) h r true = refl
-  number-settled (revoke k filler) h r false = refl
-  number-settled (openSlot k passphrase) h r b = no h
-  number-settled (openAny passphrase) h r b = no h
-  number-settled (read key u n buffer) h r b = no h
-  number-settled (write key u n buffer) h r true = refl
-  number-settled (write key u n buffer) h r false = refl
+module _ (f : Facts) (image : List ℕ) (r : ℕ) where
+  -- calls that change the image answer a number and nothing else
+  only-number : (c : Call) (b : Bool) → kindOf c ≡ changing → settle f c image r b .said ≡ answerIn (changed (settle f c image r b .said .code) image)
+  unfolding settle answer done refused noKey answerIn
+  only-number (add k key x) true h = refl
+  only-number (add k key x) false h = refl
+  only-number (change k passphrase to x filler) true h = refl
+  only-number (change k passphrase to x filler) false h = refl
+  only-number (revoke k filler) true h = refl
+  only-number (revoke k filler) false h = refl
+  only-number (openSlot k passphrase) b h = other h refl
+  only-number (openAny passphrase) b h = other h refl
+  only-number (read key u n buffer) b h = other h refl
+  only-number (write key u n buffer) true h = refl
+  only-number (write key u n buffer) false h = refl
 
-pub number-step : (image : List ℕ) (c : Call) → returnsNumber c ≡ true → (r : Refusal) (after : List ℕ)
-    → (number r ≡ step built image c .said .code) × (after ≡ step built image c .image) → step built image c ≡ record { said = numberAnswer (number r); image = after }
-unfolding step
-number-step image c h r after e =
-    let s = number-settled (factsOf built image) image c h (first (headerChecks built image ++ checks (factsOf built image) c)) (eqb (first (headerChecks built image ++ checks (factsOf built image) c)) 0) in
-    λ j. record { said = (s ∙ ap numberAnswer (sym (e .0))) j; image = sym (e .1) j }
+  -- openings leave the image, and return no bytes
+  only-key : (c : Call) (b : Bool) → kindOf c ≡ opening → (settle f c image r b .image ≡ image) × (settle f c image r b .said .bytes ≡ [])
+  unfolding settle answer calls.opened refused writes written
+  only-key (add k key x) b h = other h refl
+  only-key (change k passphrase to x filler) b h = other h refl
+  only-key (revoke k filler) b h = other h refl
+  only-key (openSlot k passphrase) true h = (refl, refl)
+  only-key (openSlot k passphrase) false h = (refl, refl)
+  only-key (openAny passphrase) true h = (refl, refl)
+  only-key (openAny passphrase) false h = (refl, refl)
+  only-key (read key u n buffer) b h = other h refl
+  only-key (write key u n buffer) b h = other h refl
 
--- ---- the openings (opening::open_slot, opening::open): the image is lent shared, and stays
+  -- a read leaves the image, and its bytes are those that it leaves in the buffer
+  only-bytes : (c : Call) (b : Bool) → eqb r 0 ≡ b → kindOf c ≡ reading
+      → settle f c image r b ≡ record { said = answerIn (filled (settle f c image r b .said .code) (bufferAfter (settle f c image r b .said) (bufferOf c))); image = image }
+  unfolding settle answer refused noKey writes written bufferAfter answerIn
+  only-bytes (add k key x) b e h = other h refl
+  only-bytes (change k passphrase to x filler) b e h = other h refl
+  only-bytes (revoke k filler) b e h = other h refl
+  only-bytes (openSlot k passphrase) b e h = other h refl
+  only-bytes (openAny passphrase) b e h = other h refl
+  only-bytes (read key u n buffer) true e h = refl
+  only-bytes (read key u n buffer) false e h = rw e
+  only-bytes (write key u n buffer) b e h = other h refl
 
-module _ (f : Facts) (image : List ℕ) where
-  opening-settled : (c : Call) → isOpening c ≡ true → (r : ℕ) (b : Bool) → (settle f c image r b .image ≡ image) × (settle f c image r b .said .bytes ≡ [])
-  unfolding settle isOpening answer opened refused writes written
-  opening-settled (add k key x) h r b = no h
-  opening-settled (change k passphrase to x filler) h r b = no h
-  opening-settled (revoke k filler) h r b = no h
-  opening-settled (openSlot k passphrase) h r true = (refl, refl)
-  opening-settled (openSlot k passphrase) h r false = (refl, refl)
-  opening-settled (openAny passphrase) h r true = (refl, refl)
-  opening-settled (openAny passphrase) h r false = (refl, refl)
-  opening-settled (read key u n buffer) h r b = no h
-  opening-settled (write key u n buffer) h r b = no h
+-- ---- from what a function ensures to the step
 
-pub opening-step : (image : List ℕ) (c : Call) → isOpening c ≡ true → (o : Opened) → IsAnswer o (step built image c .said)
-    → step built image c ≡ record { said = openedAnswer o; image = image }
-unfolding step openedAnswer
-opening-step image c h o e =
-    let s = opening-settled (factsOf built image) image c h (first (headerChecks built image ++ checks (factsOf built image) c)) (eqb (first (headerChecks built image ++ checks (factsOf built image) c)) 0) in
-    λ j.
-    record {
-      said = record { code = sym (e .code-is) j; slot = sym (e .slot-is) j; keyLength = sym (e .length-is) j; key = sym (e .key-is) j; bytes = s .1 j };
-      image = s .0 j;
-    }
+module _ (image : List ℕ) (c : Call) where
+  abbrev decided : ℕ
+  decided = first (headerChecks built image ++ checks (factsOf built image) c)
 
--- ---- read (payload::read)
-
-module _ (f : Facts) (image key : List ℕ) (u n : ℕ) (buffer : List ℕ) where
-  read-settled : (r : ℕ) (b : Bool) → eqb r 0 ≡ b
-      → settle f (read key u n buffer) image r b
-      ≡ record {
-        said = readAnswer (settle f (read key u n buffer) image r b .said .code) (bufferAfter (settle f (read key u n buffer) image r b .said) buffer);
-        image = image;
+  pub ensured-step : (r : Returned) → Ensured image c r → step built image c ≡ record { said = answerIn r; image = imageLeft image r }
+  unfolding step answerIn
+  ensured-step (changed r after) e =
+      let s = only-number (factsOf built image) image decided c (eqb decided 0) (e .0) in
+      λ j. record { said = (s ∙ ap (λ k. answerIn (changed k image)) (sym (e .1 .code-is))) j; image = sym (e .1 .image-is) j }
+  ensured-step (opened r slot keyLength key) e =
+      let s = only-key (factsOf built image) image decided c (eqb decided 0) (e .0) in
+      let d = e .1 in
+      λ j.
+      record {
+        said = record { code = sym (d .code-is) j; slot = sym (d .slot-is) j; keyLength = sym (d .length-is) j; key = sym (d .key-is) j; bytes = s .1 j };
+        image = s .0 j;
       }
-  unfolding settle answer refused noKey writes written readAnswer bufferAfter
-  read-settled r true e = refl
-  read-settled r false e = rw e
+  ensured-step (filled r after) e =
+      only-bytes (factsOf built image) image decided c (eqb decided 0) refl (e .0)
+      ∙ (λ j. record { said = answerIn (filled (sym (e .1 .code-is) j) (sym (e .1 .buffer-is) j)); image = image })
 
-pub read-step : (image key : List ℕ) (u n : ℕ) (buffer : List ℕ) (r : Refusal) (after : List ℕ)
-    → (number r ≡ step built image (read key u n buffer) .said .code) × (after ≡ bufferAfter (step built image (read key u n buffer) .said) buffer)
-    → step built image (read key u n buffer) ≡ record { said = readAnswer (number r) after; image = image }
-unfolding step
-read-step image key u n buffer r after e =
-    read-settled (factsOf built image) image key u n buffer _ _ refl
-    ∙ (λ j. record { said = readAnswer (sym (e .0) j) (sym (e .1) j); image = image })
+-- ---- from a trace to the run
+
+pub trace-run : (image : List ℕ) (cs : List Call) (rs : List Returned) → Trace image cs rs → run built image cs ≡ record { answers = map answerIn rs; image = lastLeft image rs }
+unfolding run
+trace-run image [] [] t = refl
+trace-run image [] (r ∷ rs) t = absurd t
+trace-run image (c ∷ cs) [] t = absurd t
+trace-run image (c ∷ cs) (r ∷ rs) t =
+    ap {B = Run} (λ a. record { answers = a .said ∷ run built (a .image) cs .answers; image = run built (a .image) cs .image }) (ensured-step image c r (t .0))
+    ∙ ap {B = Run} (λ u. record { answers = answerIn r ∷ u .answers; image = u .image }) (trace-run (imageLeft image r) cs rs (t .1))
+
+-- ---- the theorem, of what the functions return and leave
+
+-- format's function accepts and leaves `after`; the calls' functions are then called one after the other
+pub follows-ledger : (a : FormatInput) → FormatTyped a → (image after : List ℕ) → DoesFormat built a image 0 after → (cs : List Call) → AllTyped cs
+    → (rs : List Returned) → Trace after cs rs → FollowsLedger a image after cs rs
+follows-ledger a typed image after f cs typed-calls rs t =
+    let d = demand-3-built a typed image (sym (f .code-is)) cs typed-calls in
+    let e : run built (format built a image .image) cs ≡ record { answers = map answerIn rs; image = lastLeft after rs } =
+    ap (λ m. run built m cs) (sym (f .image-is)) ∙ trace-run after cs rs t in
+    record { image-is = sym (ap (λ r. r .image) e) ∙ d .image-is; answers-are = sym (ap (λ r. r .answers) e) ∙ d .answers-are }

@@ -1,1 +1,1 @@
-// From the contract of each public function to the rules' `step`: what a function returned and left is the step, whole.
+// From the contracts of functions called one after the other to the run of which the theorem speaks. It has no code.

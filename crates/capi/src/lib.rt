@@ -3,16 +3,16 @@ use header::PayloadUnit;
 use opening::Opened;
 ghost use mathlib.Core.Path.{_≡_};
 ghost use mathlib.Core.List.{_∷_};
-ghost use Rattle.rules.specs.Calls.{add, change, revoke, openSlot, openAny, read, write, bufferAfter};
-ghost use Rattle.rules.specs.Step.{step};
-ghost use Rattle.rules.specs.Format.{format};
-ghost use Rattle.built.specs.Built.{built};
+ghost use Rattle.rules.specs.Facts.{slotInput};
+ghost use Rattle.rules.specs.Calls.{add, change, revoke, openSlot, openAny, read, write};
+ghost use Rattle.rules.specs.Format.{formatInput};
+ghost use Rattle.rules.specs.Contracts.{Does, DoesRead, DoesFormat, FillsOpened};
+ghost use Rattle.profiles.specs.Suites.{built};
 ghost use Rattle.header.specs.Refusals.{number};
-ghost use Rattle.formatting.specs.Input.{formatInput};
-ghost use Rattle.keyslot.specs.Keyslot.{slotInput};
 
 // An opening as C has it: the number is returned, and slot, key length and the 64 key bytes are laid in the buffer.
-fn give(opened: &mut [u8; 66], o: Opened) -> u8
+// These 66 bytes are the call's answer: zeros where it is refused (01: "refused, all of these are zero").
+fn lay_opened(opened: &mut [u8; 66], o: Opened) -> u8
     ensures { λ r. ⌜ (r ≡ number (o .refusal)) × (now (opened .exit) ≡ o .slot ∷ o .«key_length» ∷ o .key) ⌝ }
 {
     let key = o.key;
@@ -32,8 +32,8 @@ pub extern "C" fn mivrozh_format(
     count: u32,
     uuid: &[u8],
 ) -> u8
-    ensures code { λ r. ⌜ r ≡ format built (formatInput profile stripes (now (key .entry)) (now (salt .entry)) count (now (uuid .entry))) (now (image .entry)) .code ⌝ }
-    ensures image { λ _. ⌜ now (image .exit) ≡ format built (formatInput profile stripes (now (key .entry)) (now (salt .entry)) count (now (uuid .entry))) (now (image .entry)) .image ⌝ }
+    ensures { λ r. ⌜ DoesFormat built (formatInput profile stripes (now (key .entry)) (now (salt .entry)) count (now (uuid .entry)))
+        (now (image .entry)) r (now (image .exit)) ⌝ }
 {
     header::number_of(formatting::format(image, profile, stripes, key, salt, count, uuid))
 }
@@ -48,7 +48,8 @@ pub extern "C" fn mivrozh_add(
     count: u32,
     random: &[u8],
 ) -> u8
-    ensures { λ r. ⌜ (r ≡ step built (now (image .entry)) (add slot (now (key .entry)) (slotInput (now (passphrase .entry)) (now (salt .entry)) count (now (random .entry)))) .said .code) × (now (image .exit) ≡ step built (now (image .entry)) (add slot (now (key .entry)) (slotInput (now (passphrase .entry)) (now (salt .entry)) count (now (random .entry)))) .image) ⌝ }
+    ensures { λ r. ⌜ Does built (now (image .entry))
+        (add slot (now (key .entry)) (slotInput (now (passphrase .entry)) (now (salt .entry)) count (now (random .entry)))) r (now (image .exit)) ⌝ }
 {
     header::number_of(adding::add(image, slot, key, passphrase, salt, count, random))
 }
@@ -60,16 +61,16 @@ pub extern "C" fn mivrozh_open_slot(
     passphrase: &[u8],
     opened: &mut [u8; 66],
 ) -> u8
-    ensures { λ r. ⌜ (r ≡ step built (now (image .entry)) (openSlot slot (now (passphrase .entry))) .said .code) × (now (opened .exit) ≡ step built (now (image .entry)) (openSlot slot (now (passphrase .entry))) .said .slot ∷ step built (now (image .entry)) (openSlot slot (now (passphrase .entry))) .said .keyLength ∷ step built (now (image .entry)) (openSlot slot (now (passphrase .entry))) .said .key) ⌝ }
+    ensures { λ r. ⌜ FillsOpened built (now (image .entry)) (openSlot slot (now (passphrase .entry))) r (now (opened .exit)) ⌝ }
 {
-    give(opened, opening::open_slot(image, slot, passphrase))
+    lay_opened(opened, opening::open_slot(image, slot, passphrase))
 }
 
 #[no_mangle]
 pub extern "C" fn mivrozh_open(image: &[u8], passphrase: &[u8], opened: &mut [u8; 66]) -> u8
-    ensures { λ r. ⌜ (r ≡ step built (now (image .entry)) (openAny (now (passphrase .entry))) .said .code) × (now (opened .exit) ≡ step built (now (image .entry)) (openAny (now (passphrase .entry))) .said .slot ∷ step built (now (image .entry)) (openAny (now (passphrase .entry))) .said .keyLength ∷ step built (now (image .entry)) (openAny (now (passphrase .entry))) .said .key) ⌝ }
+    ensures { λ r. ⌜ FillsOpened built (now (image .entry)) (openAny (now (passphrase .entry))) r (now (opened .exit)) ⌝ }
 {
-    give(opened, opening::open(image, passphrase))
+    lay_opened(opened, opening::open(image, passphrase))
 }
 
 #[no_mangle]
@@ -84,14 +85,16 @@ pub extern "C" fn mivrozh_change(
     random: &[u8],
     filler: &[u8],
 ) -> u8
-    ensures { λ r. ⌜ (r ≡ step built (now (image .entry)) (change from (now (old .entry)) to (slotInput (now (new .entry)) (now (salt .entry)) count (now (random .entry))) (now (filler .entry))) .said .code) × (now (image .exit) ≡ step built (now (image .entry)) (change from (now (old .entry)) to (slotInput (now (new .entry)) (now (salt .entry)) count (now (random .entry))) (now (filler .entry))) .image) ⌝ }
+    ensures { λ r. ⌜ Does built (now (image .entry))
+        (change from (now (old .entry)) to (slotInput (now (new .entry)) (now (salt .entry)) count (now (random .entry))) (now (filler .entry)))
+        r (now (image .exit)) ⌝ }
 {
     header::number_of(changing::change(image, from, old, to, new, salt, count, random, filler))
 }
 
 #[no_mangle]
 pub extern "C" fn mivrozh_revoke(image: &mut [u8], slot: u8, filler: &[u8]) -> u8
-    ensures { λ r. ⌜ (r ≡ step built (now (image .entry)) (revoke slot (now (filler .entry))) .said .code) × (now (image .exit) ≡ step built (now (image .entry)) (revoke slot (now (filler .entry))) .image) ⌝ }
+    ensures { λ r. ⌜ Does built (now (image .entry)) (revoke slot (now (filler .entry))) r (now (image .exit)) ⌝ }
 {
     header::number_of(revoking::revoke(image, slot, filler))
 }
@@ -104,9 +107,10 @@ pub extern "C" fn mivrozh_read(
     units: u64,
     buffer: &mut [u8],
 ) -> u8
-    ensures { λ r. ⌜ (r ≡ step built (now (image .entry)) (read (now (key .entry)) first units (now (buffer .entry))) .said .code) × (now (buffer .exit) ≡ bufferAfter (step built (now (image .entry)) (read (now (key .entry)) first units (now (buffer .entry))) .said) (now (buffer .entry))) ⌝ }
+    ensures { λ r. ⌜ DoesRead built (now (image .entry)) (read (now (key .entry)) first units (now (buffer .entry)))
+        r (now (buffer .entry)) (now (buffer .exit)) ⌝ }
 {
-    header::number_of(payload::read(image, key, PayloadUnit(first), units, buffer))
+    header::number_of(payload::read(image, key, PayloadUnit(first), PayloadUnit(units), buffer))
 }
 
 #[no_mangle]
@@ -117,7 +121,7 @@ pub extern "C" fn mivrozh_write(
     units: u64,
     buffer: &[u8],
 ) -> u8
-    ensures { λ r. ⌜ (r ≡ step built (now (image .entry)) (write (now (key .entry)) first units (now (buffer .entry))) .said .code) × (now (image .exit) ≡ step built (now (image .entry)) (write (now (key .entry)) first units (now (buffer .entry))) .image) ⌝ }
+    ensures { λ r. ⌜ Does built (now (image .entry)) (write (now (key .entry)) first units (now (buffer .entry))) r (now (image .exit)) ⌝ }
 {
-    header::number_of(payload::write(image, key, PayloadUnit(first), units, buffer))
+    header::number_of(payload::write(image, key, PayloadUnit(first), PayloadUnit(units), buffer))
 }

@@ -1,21 +1,17 @@
 // Change: a slot is opened with its passphrase, its key added to a second slot under a new one, and the first revoked.
 use header::Refusal;
 ghost use mathlib.Core.Path.{_≡_};
-ghost use mathlib.Core.List.{_++_};
+ghost use mathlib.Core.List.{List, _++_};
 ghost use mathlib.Core.Bool.{true, _&&_, not};
-ghost use Prim.Native.Nat.{_-_, _*_, _≤_};
-ghost use lib.ListN.{length};
-ghost use Rattle.octets.specs.Octets.{quadAt};
+ghost use Prim.Native.Nat.{ℕ};
 ghost use Rattle.rules.specs.Checks.{first};
-ghost use Rattle.rules.specs.Facts.{factsOf, slotOf, isEnabled};
-ghost use Rattle.rules.specs.Header.{headerChecks};
-ghost use Rattle.rules.specs.Calls.{change, slotNumberOk, passphraseOk, randomOk, fillerOk};
-ghost use Rattle.rules.specs.Step.{step, written, enableWrites, disableWrites};
-ghost use Rattle.built.specs.Built.{built};
+ghost use Rattle.rules.specs.Facts.{slotOf, isEnabled, slotInput};
+ghost use Rattle.rules.specs.Calls.{change, earlyChecks, slotNumberOk, passphraseOk, keyOk, countOk, randomOk, fillerOk};
+ghost use Rattle.rules.specs.Step.{written, enableWrites, disableWrites};
+ghost use Rattle.rules.specs.Contracts.{Does};
+ghost use Rattle.profiles.specs.Suites.{built};
 ghost use Rattle.header.specs.Refusals.{number};
-ghost use Rattle.header.specs.Layout.{slotIn};
-ghost use Rattle.keyslot.specs.Keyslot.{slotInput};
-ghost use Rattle.changing.specs.Changing.{earlyChecks};
+ghost use Rattle.header.specs.Records.{factsIn, HeaderOk};
 
 // Are both slot numbers 1 to 8?
 fn numbers_ok(from: u8, to: u8) -> bool
@@ -29,15 +25,13 @@ fn numbers_ok(from: u8, to: u8) -> bool
 
 // Is the first slot enabled, and the second disabled?
 fn states_ok(image: &[u8], from: u8, to: u8) -> bool
-    requires { ⌜ (1024 ≤ length (now image)) × ((slotNumberOk from && slotNumberOk to) ≡ true) ⌝ }
-    ensures { λ r. ⌜ r ≡ (isEnabled (slotOf (factsOf built (now (image .entry))) from) && not (isEnabled (slotOf (factsOf built (now (image .entry))) to))) ⌝ }
+    requires { ⌜ HeaderOk (now image) × (slotNumberOk from ≡ true) × (slotNumberOk to ≡ true) ⌝ }
+    ensures { λ r. ⌜ r ≡ (isEnabled (slotOf (factsIn (now (image .entry))) from) && not (isEnabled (slotOf (factsIn (now (image .entry))) to))) ⌝ }
 {
-    let first = header::slots::slot_at(image, (from - 1) as usize);
-    let second = header::slots::slot_at(image, (to - 1) as usize);
-    if !header::slots::is_enabled(first) {
+    if !header::arguments::slot_enabled(image, from) {
         return false;
     }
-    !header::slots::is_enabled(second)
+    !header::arguments::slot_enabled(image, to)
 }
 
 // Are both passphrases 1 to 512 bytes?
@@ -52,19 +46,17 @@ fn passphrases_ok(old: &[u8], new: &[u8]) -> bool
 
 // Are there (n − 1) × L random bytes by the second slot's n, and n × L bytes of filler by the first's?
 fn lengths_ok(image: &[u8], from: u8, to: u8, random: &[u8], filler: &[u8]) -> bool
-    requires { ⌜ (first (headerChecks built (now image)) ≡ 0) × ((slotNumberOk from && slotNumberOk to) ≡ true) ⌝ }
-    ensures { λ r. ⌜ r ≡ (randomOk (factsOf built (now (image .entry))) to (now (random .entry)) && fillerOk (factsOf built (now (image .entry))) from (now (filler .entry))) ⌝ }
+    requires { ⌜ HeaderOk (now image) × (slotNumberOk from ≡ true) × (slotNumberOk to ≡ true) ⌝ }
+    ensures { λ r. ⌜ r ≡ (randomOk (factsIn (now (image .entry))) to (now (random .entry))
+        && fillerOk (factsIn (now (image .entry))) from (now (filler .entry))) ⌝ }
 {
-    let first = header::slots::slot_at(image, (from - 1) as usize);
-    let second = header::slots::slot_at(image, (to - 1) as usize);
-    let key_bytes = octets::be32_at(image, 108) as usize;
-    if random.len() != (second.stripes as usize - 1) * key_bytes {
+    if !header::arguments::random_ok(image, to, random) {
         return false;
     }
-    filler.len() == first.stripes as usize * key_bytes
+    header::arguments::filler_ok(image, from, filler)
 }
 
-// The checks of change that cost no derivation, on a drive whose header is accepted.
+// The checks of change that derive nothing, on a drive whose header is accepted. They do not ask for the salt.
 fn change_check(
     image: &[u8],
     from: u8,
@@ -75,8 +67,9 @@ fn change_check(
     random: &[u8],
     filler: &[u8],
 ) -> Refusal
-    requires { ⌜ first (headerChecks built (now image)) ≡ 0 ⌝ }
-    ensures { λ r. ⌜ number r ≡ first (earlyChecks (factsOf built (now (image .entry))) from (now (old .entry)) to (now (new .entry)) count (now (random .entry)) (now (filler .entry))) ⌝ }
+    requires { ⌜ HeaderOk (now image) ⌝ }
+    ensures { λ r. ⌜ ((salt : List ℕ) → number r ≡ first (earlyChecks (factsIn (now (image .entry)))
+        (change from (now (old .entry)) to (slotInput (now (new .entry)) salt count (now (random .entry))) (now (filler .entry))))) ⌝ }
 {
     if !numbers_ok(from, to) {
         return Refusal::BadSlot;
@@ -87,7 +80,7 @@ fn change_check(
     if !passphrases_ok(old, new) {
         return Refusal::BadPassphrase;
     }
-    if !adding::count_ok(image, count) {
+    if !header::arguments::count_ok(image, count) {
         return Refusal::LowCount;
     }
     if !lengths_ok(image, from, to, random, filler) {
@@ -108,11 +101,15 @@ fn move_key(
     random: &[u8],
     filler: &[u8],
 )
-    requires { ⌜ (first (headerChecks built (now image)) ≡ 0) × (1 ≤ from) × (from ≤ 8) × (1 ≤ to) × (to ≤ 8) × (length (now key) ≡ quadAt (now image) 108) × (length (now new) ≤ 512) × (1 ≤ count) × (length (now random) ≡ (slotIn (now image) (to - 1) .stripes - 1) * quadAt (now image) 108) × (length (now filler) ≡ slotIn (now image) (from - 1) .stripes * quadAt (now image) 108) ⌝ }
-    ensures { λ _. ⌜ now (image .exit) ≡ written (enableWrites (factsOf built (now (image .entry))) to (now (key .entry)) (slotInput (now (new .entry)) (now (salt .entry)) count (now (random .entry))) ++ disableWrites (factsOf built (now (image .entry))) from (now (filler .entry))) (now (image .entry)) ⌝ }
+    requires { ⌜ HeaderOk (now image) × (slotNumberOk from ≡ true) × (slotNumberOk to ≡ true) × (keyOk (factsIn (now image)) (now key) ≡ true)
+        × (passphraseOk (now new) ≡ true) × (countOk (factsIn (now image)) count ≡ true)
+        × (randomOk (factsIn (now image)) to (now random) ≡ true) × (fillerOk (factsIn (now image)) from (now filler) ≡ true) ⌝ }
+    ensures { λ _. ⌜ now (image .exit) ≡ written (enableWrites (factsIn (now (image .entry))) to (now (key .entry))
+        (slotInput (now (new .entry)) (now (salt .entry)) count (now (random .entry)))
+        ++ disableWrites (factsIn (now (image .entry))) from (now (filler .entry))) (now (image .entry)) ⌝ }
 {
-    adding::enable_slot(image, to, key, new, salt, count, random);
-    revoking::disable_slot(image, from, filler);
+    slots::enable_slot(image, to, key, new, salt, count, random);
+    slots::disable_slot(image, from, filler);
 }
 
 // Moves the master key from a slot that the old passphrase opens to a disabled slot, under the new passphrase.
@@ -128,7 +125,9 @@ pub fn change(
     random: &[u8],
     filler: &[u8],
 ) -> Refusal
-    ensures { λ r. ⌜ (number r ≡ step built (now (image .entry)) (change from (now (old .entry)) to (slotInput (now (new .entry)) (now (salt .entry)) count (now (random .entry))) (now (filler .entry))) .said .code) × (now (image .exit) ≡ step built (now (image .entry)) (change from (now (old .entry)) to (slotInput (now (new .entry)) (now (salt .entry)) count (now (random .entry))) (now (filler .entry))) .image) ⌝ }
+    ensures { λ r. ⌜ Does built (now (image .entry))
+        (change from (now (old .entry)) to (slotInput (now (new .entry)) (now (salt .entry)) count (now (random .entry))) (now (filler .entry)))
+        (number r) (now (image .exit)) ⌝ }
 {
     let h = header::check::header_check(image);
     if header::number_of(h) != 0 {
@@ -138,11 +137,11 @@ pub fn change(
     if header::number_of(r) != 0 {
         return r;
     }
-    let t = opening::try_slot(image, (from - 1) as usize, old);
+    let t = slots::try_slot(image, from, old);
     if !t.opens {
         return Refusal::WrongKey;
     }
-    let l = octets::be32_at(image, 108) as usize;
+    let l = header::facts::key_bytes(image) as usize;
     let key = t.key;
     move_key(image, from, to, &key[..l], new, salt, count, random, filler);
     r

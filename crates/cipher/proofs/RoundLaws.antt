@@ -4,14 +4,14 @@ use mathlib.Core.List.{List, [], _∷_, _++_, map}
 use mathlib.Core.Logic.{_≢_, ⊎-elim}
 use Prim.Native.Nat.{ℕ, zero, suc, _+_, _-_, _*_, _/_, _%_, _<_, _≤_}
 use native.Mathlib.Nat.{not-suc-le-zero, eq-or-lt-of-le}
-use native.Mathlib.Numerals.{add-one, sub-one}
+use native.Mathlib.Numerals.{add-one}
 use native.Mathlib.Omega.{arith}
-use lib.ListN.{length, getD, set, take, drop, length-drop, length-set}
+use lib.ListN.{length, getD, set, take, drop, length-set}
 use lib.Seq.{take-add, drop-drop, getD-set-same, getD-set-other}
-use Rattle.octets.specs.Octets.{xors, bigEndian}
-use Rattle.octets.specs.Splice.{slice, splice}
+use Rattle.octets.specs.Octets.{xors, be32}
+use Rattle.octets.specs.Splice.{part, splice}
 use Rattle.octets.proofs.OctetsLaws.{length-xors}
-use Rattle.octets.proofs.SpliceLaws.{slice-splice-same, slice-splice-before}
+use Rattle.octets.proofs.SpliceLaws.{part-splice-same, part-splice-before}
 use Rattle.aes.specs.Aes.{subBytes, invSubBytes, shiftRows, invShiftRows, mixColumns, invMixColumns, roundKey, rounds, cipher, invRounds, invCipher}
 use Rattle.gf256.specs.Field.{sub}
 use Rattle.aes.specs.Planes.{column, block, state, Each, Sum, Sliced, laneOf, Transposed}
@@ -77,16 +77,16 @@ pub sliced-none : (w ks : List ℕ) → Sliced 0 w ks
 unfolding Sliced
 sliced-none w ks i j h l = absurd (omega arith)
 
-pub sliced-more : (w ks x ks′ : List ℕ) (i : ℕ) → (i + 1) * 128 ≤ length ks → length x ≡ 128 → ((j : ℕ) → j < 32 → state j x ≡ slice w (i * 16) 16) → Sliced i w ks
+pub sliced-more : (w ks x ks′ : List ℕ) (i : ℕ) → (i + 1) * 128 ≤ length ks → length x ≡ 128 → ((j : ℕ) → j < 32 → state j x ≡ part w (i * 16) 16) → Sliced i w ks
     → ks′ ≡ splice ks (i * 128) x → Sliced (i + 1) w ks′
-unfolding Sliced slice
+unfolding Sliced part
 sliced-more w ks x ks′ i h l e s z k j hk hj =
     ap (λ (y : List ℕ). state j (take 128 (drop (k * 128) y))) z
     ∙ ⊎-elim
     (λ q. ap (λ (n : ℕ). state j (take 128 (drop (n * 128) (splice ks (i * 128) x)))) q
-    ∙ ap (state j) (ap (λ (n : ℕ). take n (drop (i * 128) (splice ks (i * 128) x))) (sym l) ∙ slice-splice-same ks (i * 128) x (omega arith)) ∙ e j hj
+    ∙ ap (state j) (ap (λ (n : ℕ). take n (drop (i * 128) (splice ks (i * 128) x))) (sym l) ∙ part-splice-same ks (i * 128) x (omega arith)) ∙ e j hj
     ∙ ap (λ (n : ℕ). take 16 (drop (n * 16) w)) (sym q))
-    (λ q. ap (state j) (slice-splice-before ks (i * 128) x (k * 128) 128 (omega arith) (omega arith)) ∙ s k j q hj)
+    (λ q. ap (state j) (part-splice-before ks (i * 128) x (k * 128) 128 (omega arith) (omega arith)) ∙ s k j q hj)
     (eq-or-lt-of-le (below k hk))
   where
     below : (k : ℕ) → k < i + 1 → k ≤ i
@@ -103,8 +103,8 @@ block-of b q w x y z e =
 
 -- four columns of a list
 pub four-columns : (s : List ℕ) (k w x y z : ℕ) → column w ≡ take 4 (drop k s) → column x ≡ take 4 (drop (k + 4) s) → column y ≡ take 4 (drop (k + 8) s)
-    → column z ≡ take 4 (drop (k + 12) s) → column w ++ (column x ++ (column y ++ column z)) ≡ slice s k 16
-unfolding slice
+    → column z ≡ take 4 (drop (k + 12) s) → column w ++ (column x ++ (column y ++ column z)) ≡ part s k 16
+unfolding part
 four-columns s k w x y z ew ex ey ez =
     let d₂ : drop 4 (drop (k + 4) s) ≡ drop (k + 8) s = drop-drop 4 (k + 4) s ∙ rw (let n : k + 4 + 4 ≡ k + 8 = omega arith in n) in
     let d₃ : drop 4 (drop (k + 8) s) ≡ drop (k + 12) s = drop-drop 4 (k + 8) s ∙ rw (let n : k + 8 + 4 ≡ k + 12 = omega arith in n) in
@@ -168,16 +168,16 @@ module _ (q : List ℕ) (b w x y z : ℕ) where
 
 -- SUBWORD: a word in the first column of the first block
 pub word-substituted : (x r : ℕ) (q₀ q₁ q₂ q₃ : List ℕ) → getD q₀ 0 0 ≡ x → Transposed q₀ q₁ → Each subBytes q₁ q₂ → Transposed q₂ q₃ → getD q₃ 0 0 ≡ r
-    → bigEndian 4 r ≡ subBytes (bigEndian 4 x)
+    → be32 r ≡ subBytes (be32 x)
 unfolding subBytes
 word-substituted x r q₀ q₁ q₂ q₃ ex t e u er =
     sub-word x r (first-column sub x r q₀ q₃ ex er (u .to-blocks 0 (omega arith) ∙ e 0 (omega arith) ∙ ap subBytes (t .to-lanes 0 (omega arith))))
 
 -- a block in all lanes
 pub block-spread : (w q r : List ℕ) (k a b c d : ℕ) → column a ≡ take 4 (drop k w) → column b ≡ take 4 (drop (k + 4) w) → column c ≡ take 4 (drop (k + 8) w)
-    → column d ≡ take 4 (drop (k + 12) w) → ((m : ℕ) → m < 32 → elems row m 0 4 q ≡ a ∷ b ∷ c ∷ d ∷ []) → Transposed q r → (j : ℕ) → j < 32 → state j r ≡ slice w k 16
+    → column d ≡ take 4 (drop (k + 12) w) → ((m : ℕ) → m < 32 → elems row m 0 4 q ≡ a ∷ b ∷ c ∷ d ∷ []) → Transposed q r → (j : ℕ) → j < 32 → state j r ≡ part w k 16
 block-spread w q r k a b c d ea eb ec ed e t =
-    of-lanes (λ j. state j r ≡ slice w k 16) (λ m h. t .to-lanes m h ∙ block-of m q a b c d (e m h) ∙ four-columns w k a b c d ea eb ec ed)
+    of-lanes (λ j. state j r ≡ part w k 16) (λ m h. t .to-lanes m h ∙ block-of m q a b c d (e m h) ∙ four-columns w k a b c d ea eb ec ed)
 
 length-state : (j : ℕ) (q : List ℕ) → length (state j q) ≡ 16
 unfolding state
@@ -220,12 +220,12 @@ module _ (q r k : List ℕ) (j : ℕ) (h : j < 32) where
       unsubstituted (invMixColumns (state j q)) x y (ap length (sym (ex j h)) ∙ length-state j x) (ex j h) ey er
 
 -- part i of the sliced keys, as it is lent
-part : (ks : List ℕ) (a e : ℕ) → e ≡ a + 128 → take (e - a) (drop a ks) ≡ take 128 (drop a ks)
-part ks a e h = let n : e - a ≡ 128 = omega arith in ap (λ (m : ℕ). take m (drop a ks)) n
+lent-part : (ks : List ℕ) (a e : ℕ) → e ≡ a + 128 → take (e - a) (drop a ks) ≡ take 128 (drop a ks)
+lent-part ks a e h = let n : e - a ≡ 128 = omega arith in ap (λ (m : ℕ). take m (drop a ks)) n
 
 module _ (n : ℕ) (w ks : List ℕ) (s : Sliced (n + 2) w ks) (j : ℕ) (h : j < 32) where
   pub key-part : (i a e : ℕ) → i < n + 2 → a ≡ i * 128 → e ≡ a + 128 → state j (take (e - a) (drop a ks)) ≡ roundKey w i
-  key-part i a e l ea ee = sliced-key (n + 2) w ks (take (e - a) (drop a ks)) i j s l h (part ks a e ee ∙ ap (λ (m : ℕ). take 128 (drop m ks)) ea)
+  key-part i a e l ea ee = sliced-key (n + 2) w ks (take (e - a) (drop a ks)) i j s l h (lent-part ks a e ee ∙ ap (λ (m : ℕ). take 128 (drop m ks)) ea)
 
   pub round-again : (i : ℕ) (q₀ q r : List ℕ) (a e : ℕ) → i < n → a ≡ i * 128 → e ≡ a + 128
       → xors (state j q) (roundKey w i) ≡ rounds i w (xors (state j q₀) (roundKey w 0))

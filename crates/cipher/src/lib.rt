@@ -4,8 +4,8 @@ ghost use mathlib.Core.Path.{_≡_};
 ghost use mathlib.Core.List.{List, [], _∷_};
 ghost use Prim.Native.Nat.{ℕ, _+_, _*_, _/_, _%_, _<_, _≤_};
 ghost use lib.ListN.{length, take, drop};
-ghost use Rattle.octets.specs.Octets.{bigEndian, xors};
-ghost use Rattle.octets.specs.Splice.{slice, splice};
+ghost use Rattle.octets.specs.Octets.{be32, xors};
+ghost use Rattle.octets.specs.Splice.{part, splice};
 ghost use Rattle.aes.specs.Aes.{subBytes, invSubBytes, shiftRows, invShiftRows, mixColumns, invMixColumns, cipher, invCipher, rotWord, rcon, temp, nextWord, expand};
 ghost use Rattle.aes.specs.Planes.{column, block, state, Sliced};
 
@@ -102,7 +102,7 @@ pub fn decrypt_blocks(q: &mut [u32; 128], k: &[u32], n: usize)
 
 // SUBWORD (5.2).
 fn sub_word(x: u32) -> u32
-    ensures { λ r. ⌜ bigEndian 4 r ≡ subBytes (bigEndian 4 x) ⌝ }
+    ensures { λ r. ⌜ be32 r ≡ subBytes (be32 x) ⌝ }
 {
     let mut q = [0u32; 128];
     q[0] = x;
@@ -114,7 +114,7 @@ fn sub_word(x: u32) -> u32
 
 // ROTWORD (5.2).
 fn rot_word(x: u32) -> u32
-    ensures { λ r. ⌜ bigEndian 4 r ≡ rotWord (bigEndian 4 x) ⌝ }
+    ensures { λ r. ⌜ be32 r ≡ rotWord (be32 x) ⌝ }
 {
     x << 8 | x >> 24
 }
@@ -122,7 +122,7 @@ fn rot_word(x: u32) -> u32
 // The word of the four bytes of w from index at, the highest first.
 fn word_at(w: &[u8], at: usize) -> u32
     requires { ⌜ at + 4 ≤ length (now w) ⌝ }
-    ensures { λ r. ⌜ bigEndian 4 r ≡ take 4 (drop at (now (w .entry))) ⌝ }
+    ensures { λ r. ⌜ be32 r ≡ take 4 (drop at (now (w .entry))) ⌝ }
 {
     octets::be32_at(w, at)
 }
@@ -130,15 +130,15 @@ fn word_at(w: &[u8], at: usize) -> u32
 // The first byte of Rcon[j + 1] (5.2), as a word.
 fn round_constant(j: usize) -> u32
     requires { ⌜ j < 10 ⌝ }
-    ensures { λ r. ⌜ bigEndian 4 r ≡ rcon j ∷ 0 ∷ 0 ∷ 0 ∷ [] ⌝ }
+    ensures { λ r. ⌜ be32 r ≡ rcon j ∷ 0 ∷ 0 ∷ 0 ∷ [] ⌝ }
 {
-    octets::quad_of(RCON[j], 0, 0, 0)
+    octets::be32_of(RCON[j], 0, 0, 0)
 }
 
 // What KEYEXPANSION (5.2) adds to word i - nk, t being word i - 1.
 fn temp_word(t: u32, nk: usize, i: usize) -> u32
     requires { ⌜ (4 ≤ nk) × (nk ≤ i) × (i < (nk + 7) * 4) ⌝ }
-    ensures { λ r. ⌜ bigEndian 4 r ≡ temp nk i (bigEndian 4 t) ⌝ }
+    ensures { λ r. ⌜ be32 r ≡ temp nk i (be32 t) ⌝ }
 {
     let p = i % nk;
     if p == 0 {
@@ -156,7 +156,7 @@ fn temp_word(t: u32, nk: usize, i: usize) -> u32
 // Word i of the schedule w (5.2), which has the words before it.
 fn next_word(w: &[u8], nk: usize, i: usize) -> u32
     requires { ⌜ (4 ≤ nk) × (nk ≤ i) × (i < (nk + 7) * 4) × (i * 4 ≤ length (now w)) ⌝ }
-    ensures { λ r. ⌜ bigEndian 4 r ≡ nextWord nk i (now (w .entry)) ⌝ }
+    ensures { λ r. ⌜ be32 r ≡ nextWord nk i (now (w .entry)) ⌝ }
 {
     word_at(w, (i - nk) * 4) ^ temp_word(word_at(w, (i - 1) * 4), nk, i)
 }
@@ -185,13 +185,13 @@ pub fn column_at(s: &[u8], at: usize) -> u32
     requires { ⌜ at + 4 ≤ length (now s) ⌝ }
     ensures { λ r. ⌜ column r ≡ take 4 (drop at (now (s .entry))) ⌝ }
 {
-    octets::quad_of(s[at + 3], s[at + 2], s[at + 1], s[at])
+    octets::be32_of(s[at + 3], s[at + 2], s[at + 1], s[at])
 }
 
 // A block in all lanes: that of the 16 bytes of w from index at.
 fn spread(w: &[u8], at: usize) -> [u32; 128]
     requires { ⌜ at + 16 ≤ length (now w) ⌝ }
-    ensures { λ r. ⌜ ((j : ℕ) → j < 32 → state j r ≡ slice (now (w .entry)) at 16) ⌝ }
+    ensures { λ r. ⌜ ((j : ℕ) → j < 32 → state j r ≡ part (now (w .entry)) at 16) ⌝ }
 {
     let a = column_at(w, at);
     let b = column_at(w, at + 4);

@@ -43,7 +43,7 @@ pub fn revoking_one(image: &mut [u8], drive: &[u8], filler: &[u8]) {
 
 // Slot 2 was revoked; the field at 296 is its area's start.
 pub fn after_revoking(drive: &[u8], image: &[u8], key: &[u8], filler: &[u8]) {
-    let filled = area_is(image, damage::quad_at(image, 296), filler);
+    let filled = area_is(image, damage::be32_at(image, 296), filler);
     report::slot_line(drive, 2, b"holds the filler", filled);
     openings::refused_by_number(
         drive,

@@ -3,7 +3,7 @@ use crate::report;
 use header::PayloadUnit;
 
 // The four bytes at an index, as one number.
-pub fn quad_at(image: &[u8], at: usize) -> u32 {
+pub fn be32_at(image: &[u8], at: usize) -> u32 {
     if image.len() < 4 {
         return 0;
     }
@@ -13,7 +13,7 @@ pub fn quad_at(image: &[u8], at: usize) -> u32 {
     octets::be32_at(image, at)
 }
 
-fn put_quad(image: &mut [u8], at: usize, value: u32) {
+fn put_be32(image: &mut [u8], at: usize, value: u32) {
     if image.len() < 4 {
         return;
     }
@@ -36,19 +36,31 @@ fn changes_refuse(image: &mut [u8], number: u8) -> bool {
     let mut none = [0u8; 0];
     let salt = [0u8; 32];
     let revoked = header::number_of(revoking::revoke(image, 1, b""));
-    let read = header::number_of(payload::read(image, b"", PayloadUnit(0), 0, &mut none));
-    let written = header::number_of(payload::write(image, b"", PayloadUnit(0), 0, b""));
+    let read = header::number_of(payload::read(
+        image,
+        b"",
+        PayloadUnit(0),
+        PayloadUnit(0),
+        &mut none,
+    ));
+    let written = header::number_of(payload::write(
+        image,
+        b"",
+        PayloadUnit(0),
+        PayloadUnit(0),
+        b"",
+    ));
     let added = header::number_of(adding::add(image, 3, b"", b"", &salt, 0, b""));
     revoked == number && read == number && written == number && added == number
 }
 
 // All calls on the image with the four bytes at index at changed; then they are put back.
 fn damaged(image: &mut [u8], drive: &[u8], what: &[u8], at: usize, value: u32, number: u8) {
-    let kept = quad_at(image, at);
-    put_quad(image, at, value);
+    let kept = be32_at(image, at);
+    put_be32(image, at, value);
     let opened = openings_refuse(image, number);
     let changed = changes_refuse(image, number);
-    put_quad(image, at, kept);
+    put_be32(image, at, kept);
     report::line(drive, what, opened && changed);
 }
 

@@ -19,7 +19,7 @@ fn reads(
     requires { ⌜ start < 251 ⌝ }
 {
     made::sequence(expected, start, 7);
-    let r = payload::read(image, key, PayloadUnit(first), units, buffer);
+    let r = payload::read(image, key, PayloadUnit(first), PayloadUnit(units), buffer);
     let same = octets::equal(buffer, expected);
     report::line(drive, what, header::number_of(r) == 0 && same);
 }
@@ -81,7 +81,13 @@ fn refused(
 ) {
     let ones = [1u8; 512];
     let mut buffer = [1u8; 512];
-    let r = payload::read(image, key, PayloadUnit(first), units, &mut buffer);
+    let r = payload::read(
+        image,
+        key,
+        PayloadUnit(first),
+        PayloadUnit(units),
+        &mut buffer,
+    );
     let same = octets::equal(&buffer, &ones);
     report::line(drive, what, header::number_of(r) == number && same);
 }
@@ -131,10 +137,34 @@ pub fn writes(image: &mut [u8], drive: &[u8], key: &[u8]) {
     let mut old = [0u8; 512];
     let new = [0x5Au8; 512];
     let mut back = [0u8; 512];
-    let read = header::number_of(payload::read(image, key, PayloadUnit(5), 1, &mut old));
-    let written = header::number_of(payload::write(image, key, PayloadUnit(5), 1, &new));
-    let again = header::number_of(payload::read(image, key, PayloadUnit(5), 1, &mut back));
-    let restored = header::number_of(payload::write(image, key, PayloadUnit(5), 1, &old));
+    let read = header::number_of(payload::read(
+        image,
+        key,
+        PayloadUnit(5),
+        PayloadUnit(1),
+        &mut old,
+    ));
+    let written = header::number_of(payload::write(
+        image,
+        key,
+        PayloadUnit(5),
+        PayloadUnit(1),
+        &new,
+    ));
+    let again = header::number_of(payload::read(
+        image,
+        key,
+        PayloadUnit(5),
+        PayloadUnit(1),
+        &mut back,
+    ));
+    let restored = header::number_of(payload::write(
+        image,
+        key,
+        PayloadUnit(5),
+        PayloadUnit(1),
+        &old,
+    ));
     let same = octets::equal(&back, &new);
     report::line(
         drive,

@@ -1,30 +1,52 @@
 -- Every figure of 01 holds.
-use mathlib.Core.Path.{_≡_, refl, sym, ap, _∙_}
+use mathlib.Core.Path.{_≡_, refl, _∙_}
 use mathlib.Core.List.{List, [], _∷_}
-use mathlib.Core.Bool.{Bool, true, false, _&&_}
-use Prim.Native.Nat.{ℕ, _*_, _%_, _≤_}
+use mathlib.Core.Bool.{_&&_}
+use Prim.Native.Nat.{ℕ, zero, suc, _*_, _%_}
+use native.Mathlib.Omega.{arith}
 use lib.Dec.{eqb, leb}
 use lib.ListN.{length}
-use borrow.Author.Tests.{le-leb, eq-eqb}
-use Rattle.octets.specs.Octets.{zeros}
+use borrow.Author.Tests.{le-leb, ne-eqb}
 use Rattle.gf256.proofs.Figures.{sub-0x00, xtime-0x80}
 use Rattle.xts.proofs.Figures.{double-first, double-last}
-use Rattle.rules.specs.Checks.{first}
+use Rattle.rules.specs.Checks.{Check, first}
 use Rattle.rules.specs.Profiles.{profileAt, known}
-use Rattle.rules.specs.Table.{aesXtsRow, profilesWith}
 use Rattle.rules.specs.Layout.{areaSectors, roundUp, areaStart, payloadStart}
 use Rattle.rules.specs.Header.{sizeOk}
-use Rattle.rules.specs.Format.{FormatInput, printable, formatChecks}
-use Rattle.built.specs.Built.{built}
+use Rattle.rules.specs.Format.{FormatInput, formatChecks, settleFormat, format}
+use Rattle.profiles.specs.Rows.{aesXtsRow, rows}
+use Rattle.profiles.specs.Suites.{built}
 use Rattle.figures.specs.Figures.{Plain, Figures}
 
--- the checks of plain arguments come to those of the image's length
-module _ (a : FormatInput) (image : List ℕ) (h : Plain a) where
-  by-length : (n : ℕ) → length image ≡ n → first (formatChecks built a image)
-      ≡ first ((leb 1024 n && eqb (n % 512) 0, 1) ∷ (leb (65 * 512) n, 12) ∷ [])
-  unfolding formatChecks first sizeOk known profileAt profilesWith aesXtsRow payloadStart areaStart roundUp areaSectors
-  by-length n e =
-      rw (e, h .profile-is, h .stripes-is, h .key-is, le-leb 1000 (a .count) (h .count-is), h .uuid-long, h .uuid-printable)
+-- what is left to check of plain arguments, where the image has n bytes
+abbrev lengthChecks : ℕ → List Check
+lengthChecks n = (leb 1024 n && eqb (n % 512) 0, 1) ∷ (leb (65 * 512) n, 12) ∷ []
+
+module _ (a : FormatInput) (image : List ℕ) where
+  -- format's number is that of its first check that fails
+  code-is : (r : ℕ) → first (formatChecks built a image) ≡ r → format built a image .code ≡ r
+  unfolding format settleFormat
+  code-is zero e = rw e
+  code-is (suc r) e = rw (e, ne-eqb (suc r) 0 (λ z. omega arith))
+
+  module _ (h : Plain a) where
+    left-to-check : (n : ℕ) → length image ≡ n → first (formatChecks built a image) ≡ first (lengthChecks n)
+    unfolding formatChecks first sizeOk known profileAt rows aesXtsRow
+    left-to-check n e =
+        rw (
+          e,
+          h .profile-is,
+          le-leb 1 (a .stripes) (h .stripes-least),
+          le-leb (a .stripes) 4000 (h .stripes-most),
+          h .payload-is,
+          h .key-is,
+          le-leb 1000 (a .count) (h .count-is),
+          h .uuid-long,
+          h .uuid-printable,
+        )
+
+    by-length : (n r : ℕ) → length image ≡ n → first (lengthChecks n) ≡ r → format built a image .code ≡ r
+    by-length n r e f = code-is r (left-to-check n e ∙ f)
 
 pub figures : Figures
 unfolding areaSectors roundUp areaStart payloadStart first
@@ -39,9 +61,9 @@ figures =
       payload-n-1 = refl;
       payload-n-15 = refl;
       payload-n-16 = refl;
-      length-33280 = λ a image h e. by-length a image h 33280 e;
-      length-33279 = λ a image h e. by-length a image h 33279 e;
-      length-32768 = λ a image h e. by-length a image h 32768 e;
+      length-33280 = λ a image h e. by-length a image h 33280 0 e refl;
+      length-33279 = λ a image h e. by-length a image h 33279 1 e refl;
+      length-32768 = λ a image h e. by-length a image h 32768 12 e refl;
       doubled-first = double-first;
       doubled-last = double-last;
       substituted-0 = sub-0x00;

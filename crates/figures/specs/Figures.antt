@@ -7,15 +7,16 @@ use lib.ListN.{length}
 use Rattle.octets.specs.Octets.{zeros}
 use Rattle.gf256.specs.Field.{xtime, sub}
 use Rattle.xts.specs.Xts.{double}
-use Rattle.rules.specs.Checks.{first}
 use Rattle.rules.specs.Layout.{areaSectors, areaStart, payloadStart, slots}
-use Rattle.rules.specs.Format.{FormatInput, printable, formatChecks}
-use Rattle.built.specs.Built.{built}
+use Rattle.rules.specs.Format.{FormatInput, printable, format}
+use Rattle.profiles.specs.Suites.{built}
 
--- format's arguments for profile 1 and one stripe, with nothing wrong but maybe the image's length
+-- format's arguments for profile 1 and any stripes that give payload 65, with nothing wrong but maybe the image's length
 pub record Plain (a : FormatInput) : Type 0 where
   pub profile-is : a .profile ≡ 1
-  pub stripes-is : a .stripes ≡ 1
+  pub stripes-least : 1 ≤ a .stripes
+  pub stripes-most : a .stripes ≤ 4000
+  pub payload-is : payloadStart (a .stripes) 32 ≡ 65
   pub key-is : length (a .key) ≡ 32
   pub count-is : 1000 ≤ a .count
   pub uuid-long : length (a .uuid) ≡ 36
@@ -36,9 +37,9 @@ pub record Figures : Type 0 where
   pub payload-n-15 : payloadStart 15 32 ≡ 65
   pub payload-n-16 : payloadStart 16 32 ≡ 66
   -- "For payload 65: 33,280 bytes pass, 33,279 give 1, 32,768 give 12"
-  pub length-33280 : (a : FormatInput) (image : List ℕ) → Plain a → length image ≡ 33280 → first (formatChecks built a image) ≡ 0
-  pub length-33279 : (a : FormatInput) (image : List ℕ) → Plain a → length image ≡ 33279 → first (formatChecks built a image) ≡ 1
-  pub length-32768 : (a : FormatInput) (image : List ℕ) → Plain a → length image ≡ 32768 → first (formatChecks built a image) ≡ 12
+  pub length-33280 : (a : FormatInput) (image : List ℕ) → Plain a → length image ≡ 33280 → format built a image .code ≡ 0
+  pub length-33279 : (a : FormatInput) (image : List ℕ) → Plain a → length image ≡ 33279 → format built a image .code ≡ 1
+  pub length-32768 : (a : FormatInput) (image : List ℕ) → Plain a → length image ≡ 32768 → format built a image .code ≡ 12
   -- "Doubling: first byte 1 and zeros gives first byte 2; last byte 128 and zeros gives first byte 0x87"
   pub doubled-first : double (1 ∷ zeros 15) ≡ 2 ∷ zeros 15
   pub doubled-last : double (zeros 15 ++ 128 ∷ []) ≡ 0x87 ∷ zeros 15

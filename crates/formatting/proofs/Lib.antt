@@ -1,3 +1,2 @@
-pub mod UuidLaws
 pub mod FieldsLaws
 pub mod FormatLaws

@@ -7,10 +7,9 @@ ghost use Prim.Native.Nat.{ℕ};
 ghost use lib.Dec.{eqb, leb};
 ghost use lib.ListN.{length};
 ghost use Rattle.rules.specs.Checks.{first};
-ghost use Rattle.rules.specs.Format.{printable, formatChecks};
+ghost use Rattle.rules.specs.Format.{formatInput, printable, formatChecks};
 ghost use Rattle.header.specs.Refusals.{number};
-ghost use Rattle.built.specs.Built.{built};
-ghost use Rattle.formatting.specs.Input.{formatInput};
+ghost use Rattle.profiles.specs.Suites.{built};
 
 // Is the number of stripes 1 to 4,000?
 fn stripes_ok(n: u32) -> bool
@@ -51,20 +50,21 @@ pub fn format_check(
     count: u32,
     uuid: &[u8],
 ) -> Refusal
-    ensures { λ r. ⌜ ((salt : List ℕ) → number r ≡ first (formatChecks built (formatInput profile stripes (now (key .entry)) salt count (now (uuid .entry))) (now (image .entry)))) ⌝ }
+    ensures { λ r. ⌜ ((salt : List ℕ) → number r ≡ first (formatChecks built
+        (formatInput profile stripes (now (key .entry)) salt count (now (uuid .entry))) (now (image .entry)))) ⌝ }
 {
     if !header::check::size_ok(image) {
         return Refusal::ImageSize;
     }
-    if !header::profiles::is_known(profile) {
+    if !profiles::is_known(profile) {
         return Refusal::UnknownProfile;
     }
     if !stripes_ok(stripes) {
         return Refusal::BadStripes;
     }
-    let p = header::profiles::profile_at(profile);
+    let p = profiles::profile_at(profile);
     let key_bytes = p.key_bytes as usize;
-    let min_count = p.min_sum_count;
+    let min_count = p.min_checksum_count;
     if key.len() != key_bytes {
         return Refusal::KeyLength;
     }

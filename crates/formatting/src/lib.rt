@@ -7,14 +7,13 @@ ghost use mathlib.Core.Path.{_≡_};
 ghost use mathlib.Core.Bool.{true};
 ghost use Prim.Native.Nat.{_≤_};
 ghost use lib.ListN.{length};
-ghost use Rattle.suite.specs.Suite.{Suite};
 ghost use Rattle.rules.specs.Checks.{first};
 ghost use Rattle.rules.specs.Profiles.{known, profileAt};
-ghost use Rattle.rules.specs.Table.{profilesWith};
-ghost use Rattle.rules.specs.Format.{formatChecks, headerOf, formatted, format};
+ghost use Rattle.rules.specs.Format.{formatInput, formatChecks, headerOf, formatted};
+ghost use Rattle.rules.specs.Contracts.{DoesFormat};
+ghost use Rattle.profiles.specs.Rows.{rows};
+ghost use Rattle.profiles.specs.Suites.{suiteOf, built};
 ghost use Rattle.header.specs.Refusals.{number};
-ghost use Rattle.built.specs.Built.{built};
-ghost use Rattle.formatting.specs.Input.{formatInput};
 
 // The header of a new drive.
 fn header_of(
@@ -25,10 +24,11 @@ fn header_of(
     count: u32,
     uuid: &[u8],
 ) -> [u8; 592]
-    requires { ⌜ ((S : Suite) → known (profilesWith S) profile ≡ true) × (stripes ≤ 4000) × (length (now key) ≤ 64) × (1 ≤ count) × (length (now uuid) ≡ 36) ⌝ }
-    ensures { λ r. ⌜ r ≡ headerOf (profileAt built profile) (formatInput profile stripes (now (key .entry)) (now (salt .entry)) count (now (uuid .entry))) ⌝ }
+    requires { ⌜ (known rows profile ≡ true) × (stripes ≤ 4000) × (length (now key) ≤ 64) × (1 ≤ count) × (length (now uuid) ≡ 36) ⌝ }
+    ensures { λ r. ⌜ r ≡ headerOf (suiteOf profile) (profileAt rows profile)
+        (formatInput profile stripes (now (key .entry)) (now (salt .entry)) count (now (uuid .entry))) ⌝ }
 {
-    let p = header::profiles::profile_at(profile);
+    let p = profiles::profile_at(profile);
     let mut sum = [0u8; 20];
     pbkdf2::pbkdf2_sha1(&mut sum, key, salt, count);
     let mut h = [0u8; 592];
@@ -49,7 +49,8 @@ fn write_drive(
     uuid: &[u8],
 )
     requires { ⌜ first (formatChecks built (formatInput profile stripes (now key) (now salt) count (now uuid)) (now image)) ≡ 0 ⌝ }
-    ensures { λ _. ⌜ now (image .exit) ≡ formatted built (formatInput profile stripes (now (key .entry)) (now (salt .entry)) count (now (uuid .entry))) (now (image .entry)) ⌝ }
+    ensures { λ _. ⌜ now (image .exit) ≡ formatted built
+        (formatInput profile stripes (now (key .entry)) (now (salt .entry)) count (now (uuid .entry))) (now (image .entry)) ⌝ }
 {
     let payload = header::layout::payload_start(stripes, key.len() as u32);
     let end = payload.0 as usize * 512;
@@ -69,8 +70,8 @@ pub fn format(
     count: u32,
     uuid: &[u8],
 ) -> Refusal
-    ensures code { λ r. ⌜ number r ≡ format built (formatInput profile stripes (now (key .entry)) (now (salt .entry)) count (now (uuid .entry))) (now (image .entry)) .code ⌝ }
-    ensures image { λ _. ⌜ now (image .exit) ≡ format built (formatInput profile stripes (now (key .entry)) (now (salt .entry)) count (now (uuid .entry))) (now (image .entry)) .image ⌝ }
+    ensures { λ r. ⌜ DoesFormat built (formatInput profile stripes (now (key .entry)) (now (salt .entry)) count (now (uuid .entry)))
+        (now (image .entry)) (number r) (now (image .exit)) ⌝ }
 {
     let r = crate::checks::format_check(image, profile, stripes, key, count, uuid);
     if header::number_of(r) != 0 {

@@ -1,51 +1,51 @@
 -- What an accepted header check assures of an image: its profile's row, its slots' areas, and room for all of them.
-use mathlib.Core.Path.{_≡_, refl, sym, ap, _∙_, subst}
+use mathlib.Core.Path.{_≡_, refl}
 use mathlib.Core.Logic.{_≢_}
-use mathlib.Core.List.{List, [], _∷_, map}
-use mathlib.Core.Bool.{Bool, true, false, _&&_, _||_, not, cond}
-use Prim.Native.Nat.{ℕ, zero, suc, _+_, _*_, _%_, _≤_, _<_}
+use mathlib.Core.List.{List}
+use mathlib.Core.Bool.{Bool, true, _&&_, _||_, not}
+use Prim.Native.Nat.{ℕ, zero, suc, _+_, _*_, _%_, _≤_}
 use native.Mathlib.Omega.{arith}
-use lib.Dec.{eqb, leb, ltb}
-use lib.ListN.{length, getD}
+use lib.Dec.{eqb, leb}
+use lib.ListN.{length}
 use borrow.Author.Tests.{eqb-true, eqb-false, leb-true, not-true}
-use Rattle.octets.specs.Octets.{quadAt}
-use Rattle.octets.specs.Splice.{slice}
-use Rattle.octets.proofs.BoolLaws.{and-split, or-not, no}
-use Rattle.suite.specs.Suite.{Suite}
-use Rattle.rules.specs.Checks.{first}
-use Rattle.rules.specs.Profiles.{Profile, holdsText, fits, numberOf, profileAt}
-use Rattle.rules.specs.Table.{aesXtsRow, profilesWith}
-use Rattle.rules.specs.Layout.{slots}
-use Rattle.rules.specs.Facts.{SlotFacts, slotAt, isEnabled, enabled, disabled, profileIn, factsOf}
-use Rattle.rules.specs.Header.{sizeOk, every, recordOk, slotOk, areaEnd, inside, allApart, soundChecks, headerChecks}
+use Rattle.octets.specs.Octets.{be32At}
+use Rattle.octets.proofs.BoolLaws.{and-split, or-not}
+use Rattle.rules.specs.Checks.{every}
+use Rattle.rules.specs.Profiles.{Profile, profileAt, known}
+use Rattle.rules.specs.Facts.{Facts, SlotFacts, slotOf, isEnabled, enabled, disabled, profileIn, factsOf}
+use Rattle.rules.specs.Header.{sizeOk, recordOk, slotOk, areaEnd, inside, allApart, soundChecks, headerChecks}
+use Rattle.rules.specs.Calls.{slotNumberOk}
+use Rattle.rules.specs.Lawful.{LawfulRow}
 use Rattle.rules.proofs.ChecksLaws.{Pass, accepted}
-use Rattle.rules.proofs.StepLaws.{numbered-header, slots-at}
-use Rattle.header.specs.Layout.{slotIn}
+use Rattle.rules.proofs.StepLaws.{numbered-header}
+use Rattle.rules.proofs.RowLaws.{row-at, lawful-row, known-in, key-in}
+use Rattle.profiles.specs.Rows.{aesXtsRow, rows}
+use Rattle.profiles.specs.Suites.{built}
+use Rattle.profiles.proofs.Lawful.{rows-ok}
+use Rattle.header.specs.Records.{factsIn, HeaderOk, Named}
+use Rattle.header.proofs.FactsLaws.{slot-passes}
 
--- a row of the table, for key bytes L
-pub record RowSound (S : Suite) (p : Profile) (L : ℕ) : Type 0 where
-  pub key-is : p .keyBytes ≡ L
-  pub suite-is : p .suite ≡ S
-  pub least : 32 ≤ L
-  pub most : L ≤ 64
-  pub whole : L % 32 ≡ 0
+-- slot k, counted from 1
+pub record SlotSound (f : Facts) (k : ℕ) : Type 0 where
+  pub stripes-least : 1 ≤ slotOf f k .stripes
+  pub stripes-most : slotOf f k .stripes ≤ 4000
+  pub start-least : 2 ≤ slotOf f k .start
+  pub area-ends : slotOf f k .start * 512 + slotOf f k .stripes * f .profile .keyBytes ≤ f .payloadAt * 512
+  pub count-least : isEnabled (slotOf f k) ≡ true → 1 ≤ slotOf f k .count
 
--- slot k, from 0
-pub record SlotSound (image : List ℕ) (k : ℕ) : Type 0 where
-  pub stripes-least : 1 ≤ slotIn image k .stripes
-  pub stripes-most : slotIn image k .stripes ≤ 4000
-  pub start-least : 2 ≤ slotIn image k .start
-  pub area-ends : slotIn image k .start * 512 + slotIn image k .stripes * quadAt image 108 ≤ quadAt image 104 * 512
-  pub count-least : isEnabled (slotIn image k) ≡ true → 1 ≤ slotIn image k .count
-
-pub record Sound (S : Suite) (image : List ℕ) : Type 0 where
+pub record Sound (image : List ℕ) : Type 0 where
   pub size : 1024 ≤ length image
   pub whole : length image % 512 ≡ 0
-  pub row : RowSound S (factsOf (profilesWith S) image .profile) (quadAt image 108)
-  pub found : ltb 0 (profileIn (profilesWith S) image) ≡ true
-  pub sum-least : 1 ≤ quadAt image 164
-  pub payload-ends : quadAt image 104 * 512 ≤ length image
-  pub slot : (k : ℕ) → k < 8 → SlotSound image k
+  pub named : Named image
+  pub known-profile : known rows (profileIn rows image) ≡ true
+  pub key-at : factsIn image .profile .keyBytes ≡ be32At image 108
+  pub key-least : 32 ≤ factsIn image .profile .keyBytes
+  pub key-most : factsIn image .profile .keyBytes ≤ 64
+  pub key-whole : factsIn image .profile .keyBytes % 32 ≡ 0
+  pub slot-count-least : 1 ≤ factsIn image .profile .minSlotCount
+  pub checksum-least : 1 ≤ factsIn image .checksumCount
+  pub payload-ends : factsIn image .payloadAt * 512 ≤ length image
+  pub slot : (k : ℕ) → slotNumberOk k ≡ true → SlotSound (factsIn image) k
 
 positive : (n : ℕ) → n ≢ 0 → 1 ≤ n
 positive zero z = absurd (z refl)
@@ -53,49 +53,41 @@ positive (suc n) z = omega arith
 
 -- ---- the row
 
-fits-key : (p : Profile) (c m h : List ℕ) (L : ℕ) → fits p c m h L ≡ true → L ≡ p .keyBytes
-unfolding fits
-fits-key p c m h L e =
-    let t₃ : Bool = holdsText (p .hash) h && eqb L (p .keyBytes) in
-    let t₂ : Bool = holdsText (p .mode) m && t₃ in
-    eqb-true L (p .keyBytes)
-    (and-split (holdsText (p .hash) h) (eqb L (p .keyBytes)) (and-split (holdsText (p .mode) m) t₃ (and-split (holdsText (p .cipher) c) t₂ e .1) .1) .1)
+-- keys are whole halves of 32 bytes
+abbrev keyWhole : Profile → Bool
+keyWhole p = leb 32 (p .keyBytes) && eqb (p .keyBytes % 32) 0
 
-module _ (S : Suite) (image : List ℕ) where
-  abbrev table : List Profile
-  table = profilesWith S
+keys-whole : every keyWhole rows ≡ true
+unfolding every rows aesXtsRow
+keys-whole = refl
 
-  abbrev fits-in : ℕ → ℕ → Bool
-  fits-in number keyBytes = fits (aesXtsRow S number keyBytes) (slice image 8 32) (slice image 40 32) (slice image 72 32) (quadAt image 108)
+module _ (image : List ℕ) (n : Named image) where
+  known-row : known rows (profileIn rows image) ≡ true
+  known-row = known-in rows rows-ok image (n .found)
 
-  by-fit : (b₁ b₂ : Bool) → fits-in 1 32 ≡ b₁ → fits-in 2 64 ≡ b₂ → ltb 0 (cond b₁ 1 (cond b₂ 2 0)) ≡ true
-      → RowSound S (profileAt table (cond b₁ 1 (cond b₂ 2 0))) (quadAt image 108)
-  unfolding profilesWith profileAt aesXtsRow
-  by-fit true b₂ e₁ e₂ h =
-      let l : quadAt image 108 ≡ 32 = fits-key (aesXtsRow S 1 32) (slice image 8 32) (slice image 40 32) (slice image 72 32) (quadAt image 108) e₁ in
-      record { key-is = sym l; suite-is = refl; least = omega (arith, l); most = omega (arith, l); whole = omega (arith, l) }
-  by-fit false true e₁ e₂ h =
-      let l : quadAt image 108 ≡ 64 = fits-key (aesXtsRow S 2 64) (slice image 8 32) (slice image 40 32) (slice image 72 32) (quadAt image 108) e₂ in
-      record { key-is = sym l; suite-is = refl; least = omega (arith, l); most = omega (arith, l); whole = omega (arith, l) }
-  by-fit false false e₁ e₂ h = no h
+  row : LawfulRow rows (profileIn rows image)
+  row = lawful-row rows rows-ok (profileIn rows image) known-row
 
-  number-is : profileIn table image ≡ cond (fits-in 1 32) 1 (cond (fits-in 2 64) 2 0)
-  unfolding profileIn numberOf profilesWith aesXtsRow
-  number-is = refl
+  pub key-is : factsIn image .profile .keyBytes ≡ be32At image 108
+  unfolding factsOf
+  key-is = key-in rows rows-ok image (n .found)
 
-  pub row-sound : ltb 0 (profileIn table image) ≡ true → RowSound S (profileAt table (profileIn table image)) (quadAt image 108)
-  row-sound h = subst (λ (n : ℕ). RowSound S (profileAt table n) (quadAt image 108)) (sym number-is) (by-fit _ _ refl refl (sym (ap (ltb 0) number-is) ∙ h))
+  pub key-small : factsIn image .profile .keyBytes ≤ 64
+  unfolding factsOf
+  key-small = row .key-most
+
+  key-parts : (32 ≤ factsIn image .profile .keyBytes) × (factsIn image .profile .keyBytes % 32 ≡ 0)
+  unfolding factsOf
+  key-parts =
+      let L : ℕ = (profileAt rows (profileIn rows image)) .keyBytes in
+      let p = and-split (leb 32 L) (eqb (L % 32) 0) (row-at keyWhole rows (profileIn rows image) keys-whole known-row) in
+      (leb-true 32 L (p .0), eqb-true (L % 32) 0 (p .1))
+
+  slot-count : 1 ≤ factsIn image .profile .minSlotCount
+  unfolding factsOf
+  slot-count = row .slot-count
 
 -- ---- the slots
-
-every-at : (t : SlotFacts → Bool) (f : ℕ → SlotFacts) (xs : List ℕ) (k : ℕ) → every t (map f xs) ≡ true → k < length xs → t (f (getD xs k 0)) ≡ true
-unfolding every
-every-at t f [] k e h = absurd (omega arith)
-every-at t f (x ∷ xs) zero e h = and-split (t (f x)) (every t (map f xs)) e .0
-every-at t f (x ∷ xs) (suc k) e h = every-at t f xs k (and-split (t (f x)) (every t (map f xs)) e .1) (omega arith)
-
-pub every-slot : (t : SlotFacts → Bool) (f : ℕ → SlotFacts) (k : ℕ) → every t (map f slots) ≡ true → k < 8 → t (f k) ≡ true
-every-slot t f k e h = sym (ap (λ (j : ℕ). t (f j)) (slots-at k h)) ∙ every-at t f slots k e h
 
 record-facts : (s : SlotFacts) → slotOk s ≡ true → (1 ≤ s .stripes) × (s .stripes ≤ 4000) × (isEnabled s ≡ true → 1 ≤ s .count)
 unfolding slotOk recordOk isEnabled
@@ -116,31 +108,45 @@ inside-facts L payload s e =
     let p = and-split (leb 2 (s .start)) (leb (s .start * 512 + s .stripes * L) (payload * 512)) e in
     (leb-true _ _ (p .0), leb-true _ _ (p .1))
 
+module _ (image : List ℕ) where
+  abbrev f : Facts
+  f = factsIn image
+
+  abbrev within : SlotFacts → Bool
+  within = inside (f .profile .keyBytes) (f .payloadAt)
+
+  slot-sound : every slotOk (f .slotFacts) ≡ true → every within (f .slotFacts) ≡ true → (k : ℕ) → slotNumberOk k ≡ true → SlotSound f k
+  slot-sound ok in-place k h =
+      let s = record-facts (slotOf f k) (slot-passes slotOk image k ok h) in
+      let i = inside-facts (f .profile .keyBytes) (f .payloadAt) (slotOf f k) (slot-passes within image k in-place h) in
+      record { stripes-least = s .0; stripes-most = s .1; start-least = i .0; area-ends = i .1; count-least = s .2 }
+
 -- ---- all of it
 
-pub sound : (S : Suite) (image : List ℕ) → first (headerChecks (profilesWith S) image) ≡ 0 → Sound S image
-unfolding headerChecks soundChecks factsOf sizeOk
-sound S image e =
-    let table : List Profile = profilesWith S in
-    let p : Pass (headerChecks table image) = accepted (headerChecks table image) (numbered-header table image) e in
-    let r : RowSound S (profileAt table (profileIn table image)) (quadAt image 108) = row-sound S image (p .1 .1 .1 .0) in
-    let all : List SlotFacts = map (slotAt image (quadAt image 108)) slots in
-    let L : ℕ = (profileAt table (profileIn table image)) .keyBytes in
-    let pay : ℕ = quadAt image 104 in
+pub sound : (image : List ℕ) → HeaderOk image → Sound image
+unfolding headerChecks soundChecks sizeOk
+sound image e =
+    let p : Pass (headerChecks built image) = accepted (headerChecks built image) (numbered-header built image) e in
+    let g : Facts = factsIn image in
+    let L : ℕ = g .profile .keyBytes in
+    let apart : Bool = allApart L (g .slotFacts) in
     let one = and-split (leb 1024 (length image)) (eqb (length image % 512) 0) (p .0) in
-    let five = and-split (not (eqb (quadAt image 164) 0)) (every slotOk all) (p .1 .1 .1 .1 .0) in
-    let six = and-split (leb (pay * 512) (length image)) (every (inside L pay) all && allApart L all) (p .1 .1 .1 .1 .1 .0) in
-    let area = and-split (every (inside L pay) all) (allApart L all) (six .1) in
+    let five = and-split (not (eqb (g .checksumCount) 0)) (every slotOk (g .slotFacts)) (p .1 .1 .1 .1 .0) in
+    let six = and-split (leb (g .payloadAt * 512) (length image)) (every (within image) (g .slotFacts) && apart) (p .1 .1 .1 .1 .1 .0) in
+    let area = and-split (every (within image) (g .slotFacts)) apart (six .1) in
+    let n : Named image = record { size = leb-true 1024 (length image) (one .0); found = p .1 .1 .1 .0 } in
+    let key = key-parts image n in
     record {
-      size = leb-true 1024 (length image) (one .0);
+      size = n .size;
       whole = eqb-true (length image % 512) 0 (one .1);
-      row = r;
-      found = p .1 .1 .1 .0;
-      sum-least = positive (quadAt image 164) (eqb-false _ 0 (not-true _ (five .0)));
-      payload-ends = leb-true _ _ (six .0);
-      slot = λ k h.
-          let s = record-facts (slotIn image k) (every-slot slotOk (slotAt image (quadAt image 108)) k (five .1) h) in
-          let i = inside-facts _ _ (slotIn image k) (every-slot (inside ((profileAt (profilesWith S) (profileIn (profilesWith S) image)) .keyBytes) (quadAt image 104)) (slotAt image (quadAt image 108)) k (area .0) h) in
-          let z : slotIn image k .stripes * ((profileAt (profilesWith S) (profileIn (profilesWith S) image)) .keyBytes) ≡ slotIn image k .stripes * quadAt image 108 = ap (λ (n : ℕ). slotIn image k .stripes * n) (r .key-is) in
-          record { stripes-least = s .0; stripes-most = s .1; start-least = i .0; area-ends = omega (arith, i .1, z); count-least = s .2 };
+      named = n;
+      known-profile = known-row image n;
+      key-at = key-is image n;
+      key-least = key .0;
+      key-most = key-small image n;
+      key-whole = key .1;
+      slot-count-least = slot-count image n;
+      checksum-least = positive (g .checksumCount) (eqb-false (g .checksumCount) 0 (not-true _ (five .0)));
+      payload-ends = leb-true (g .payloadAt * 512) (length image) (six .0);
+      slot = slot-sound image (five .1) (area .0);
     }

@@ -1,18 +1,14 @@
 // The header check.
-use crate::ImageSector;
 use crate::Refusal;
 ghost use mathlib.Core.Path.{_≡_};
-ghost use mathlib.Core.List.{map};
 ghost use Prim.Native.Nat.{_+_, _≤_, _<_};
 ghost use lib.ListN.{length, drop};
-ghost use Rattle.octets.specs.Octets.{quadAt};
-ghost use Rattle.suite.specs.Suite.{Suite};
-ghost use Rattle.rules.specs.Checks.{first};
-ghost use Rattle.rules.specs.Table.{profilesWith};
-ghost use Rattle.rules.specs.Layout.{slots};
-ghost use Rattle.rules.specs.Header.{sizeOk, every, slotOk, inside, apart, allApart, headerChecks};
+ghost use Rattle.rules.specs.Checks.{first, every};
+ghost use Rattle.rules.specs.Facts.{slotOf};
+ghost use Rattle.rules.specs.Header.{sizeOk, slotOk, inside, apart, allApart, soundChecks, headerChecks};
+ghost use Rattle.profiles.specs.Suites.{built};
 ghost use Rattle.header.specs.Refusals.{number};
-ghost use Rattle.header.specs.Layout.{slotIn, layoutChecks};
+ghost use Rattle.header.specs.Records.{factsIn, Named};
 
 // Is the image at least 1,024 bytes, and whole sectors?
 pub fn size_ok(image: &[u8]) -> bool
@@ -27,42 +23,43 @@ pub fn size_ok(image: &[u8]) -> bool
 // Are all eight records in order?
 fn records_ok(image: &[u8]) -> bool
     requires { ⌜ 1024 ≤ length (now image) ⌝ }
-    ensures { λ r. ⌜ r ≡ every slotOk (map (slotIn (now (image .entry))) slots) ⌝ }
+    ensures { λ r. ⌜ r ≡ every slotOk (factsIn (now (image .entry)) .slotFacts) ⌝ }
 {
-    let mut k: usize = 0;
-    while k < 8 {
-        if !crate::slots::record_ok(crate::slots::slot_at(image, k)) {
+    let mut i: usize = 0;
+    while i < 8 {
+        if !crate::records::record_ok(crate::facts::slot_at(image, i)) {
             return false;
         }
-        k += 1;
+        i += 1;
     }
     true
 }
 
 // Are all eight areas between sector 2 and the payload?
-fn areas_inside(image: &[u8], key_bytes: u32, payload: ImageSector) -> bool
+fn areas_inside(image: &[u8], key_bytes: u32) -> bool
     requires { ⌜ (1024 ≤ length (now image)) × («key_bytes» ≤ 64) ⌝ }
-    ensures { λ r. ⌜ r ≡ every (inside «key_bytes» (payload .0)) (map (slotIn (now (image .entry))) slots) ⌝ }
+    ensures { λ r. ⌜ r ≡ every (inside «key_bytes» (factsIn (now (image .entry)) .payloadAt)) (factsIn (now (image .entry)) .slotFacts) ⌝ }
 {
-    let mut k: usize = 0;
-    while k < 8 {
-        if !crate::slots::area_inside(crate::slots::slot_at(image, k), key_bytes, payload) {
+    let payload = crate::facts::payload_at(image);
+    let mut i: usize = 0;
+    while i < 8 {
+        if !crate::records::area_inside(crate::facts::slot_at(image, i), key_bytes, payload) {
             return false;
         }
-        k += 1;
+        i += 1;
     }
     true
 }
 
-// Does area i share no byte with a later one?
+// Does the area at index i share no byte with a later one?
 fn apart_from_later(image: &[u8], i: usize, key_bytes: u32) -> bool
     requires { ⌜ (1024 ≤ length (now image)) × (i < 8) × («key_bytes» ≤ 64) ⌝ }
-    ensures { λ r. ⌜ r ≡ every (apart «key_bytes» (slotIn (now (image .entry)) i)) (map (slotIn (now (image .entry))) (drop (i + 1) slots)) ⌝ }
+    ensures { λ r. ⌜ r ≡ every (apart «key_bytes» (slotOf (factsIn (now (image .entry))) (i + 1))) (drop (i + 1) (factsIn (now (image .entry)) .slotFacts)) ⌝ }
 {
-    let s = crate::slots::slot_at(image, i);
+    let s = crate::facts::slot_at(image, i);
     let mut j = i + 1;
     while j < 8 {
-        if !crate::slots::areas_apart(s, crate::slots::slot_at(image, j), key_bytes) {
+        if !crate::records::apart(s, crate::facts::slot_at(image, j), key_bytes) {
             return false;
         }
         j += 1;
@@ -71,9 +68,9 @@ fn apart_from_later(image: &[u8], i: usize, key_bytes: u32) -> bool
 }
 
 // Do no two areas share a byte?
-fn areas_apart(image: &[u8], key_bytes: u32) -> bool
+fn all_apart(image: &[u8], key_bytes: u32) -> bool
     requires { ⌜ (1024 ≤ length (now image)) × («key_bytes» ≤ 64) ⌝ }
-    ensures { λ r. ⌜ r ≡ allApart «key_bytes» (map (slotIn (now (image .entry))) slots) ⌝ }
+    ensures { λ r. ⌜ r ≡ allApart «key_bytes» (factsIn (now (image .entry)) .slotFacts) ⌝ }
 {
     let mut i: usize = 0;
     while i < 8 {
@@ -85,26 +82,25 @@ fn areas_apart(image: &[u8], key_bytes: u32) -> bool
     true
 }
 
-// The checks of an image with a known profile: refusals 5 and 6.
+// Refusals 5 and 6 of an image with a known profile.
 fn layout_check(image: &[u8]) -> Refusal
-    requires { ⌜ (1024 ≤ length (now image)) × (quadAt (now image) 108 ≤ 64) ⌝ }
-    ensures { λ r. ⌜ number r ≡ first (layoutChecks (now (image .entry))) ⌝ }
+    requires { ⌜ Named (now image) ⌝ }
+    ensures { λ r. ⌜ number r ≡ first (soundChecks (factsIn (now (image .entry))) (length (now (image .entry)))) ⌝ }
 {
-    if octets::be32_at(image, 164) == 0 {
+    if crate::facts::checksum_count(image) == 0 {
         return Refusal::BadRecord;
     }
     if !records_ok(image) {
         return Refusal::BadRecord;
     }
-    let key_bytes = octets::be32_at(image, 108);
-    let payload = ImageSector(octets::be32_at(image, 104));
-    if image.len() / 512 < payload.0 as usize {
+    let key_bytes = crate::facts::key_bytes(image);
+    if image.len() / 512 < crate::facts::payload_at(image).0 as usize {
         return Refusal::BadArea;
     }
-    if !areas_inside(image, key_bytes, payload) {
+    if !areas_inside(image, key_bytes) {
         return Refusal::BadArea;
     }
-    if !areas_apart(image, key_bytes) {
+    if !all_apart(image, key_bytes) {
         return Refusal::BadArea;
     }
     Refusal::Accepted
@@ -112,7 +108,7 @@ fn layout_check(image: &[u8]) -> Refusal
 
 // The header check, refusals 1 to 6.
 pub fn header_check(image: &[u8]) -> Refusal
-    ensures { λ r. ⌜ ((S : Suite) → number r ≡ first (headerChecks (profilesWith S) (now (image .entry)))) ⌝ }
+    ensures { λ r. ⌜ number r ≡ first (headerChecks built (now (image .entry))) ⌝ }
 {
     if !size_ok(image) {
         return Refusal::ImageSize;
@@ -123,7 +119,7 @@ pub fn header_check(image: &[u8]) -> Refusal
     if !octets::equal(&image[6..8], b"\x00\x01") {
         return Refusal::Version;
     }
-    if crate::profiles::profile_in(image) == 0 {
+    if crate::facts::profile_in(image) == 0 {
         return Refusal::NoProfile;
     }
     layout_check(image)

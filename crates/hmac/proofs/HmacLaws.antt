@@ -5,36 +5,33 @@ use Prim.Native.Nat.{ℕ, _≤_, _<_}
 use native.Mathlib.Decide.{decLe}
 use native.Mathlib.Omega.{arith}
 use borrow.Author.Tests.{lt-ltb, le-ltb}
-use lib.ListN.{length, length-append}
-use Rattle.octets.specs.Octets.{Str}
-use Rattle.octets.proofs.OctetsLaws.{length-zeros, length-xors}
+use lib.ListN.{length}
+use Rattle.octets.specs.Octets.{Str, padded}
+use Rattle.octets.proofs.OctetsLaws.{length-padded, length-xors}
 use Rattle.digest.specs.Digest.{Digest, LawfulDigest}
 use Rattle.sha1.specs.Sha1.{sha1}
 use Rattle.sha1.proofs.Sha1Laws.{hash-after, lawful}
-use Rattle.hmac.specs.Hmac.{zeroPad, keyBlock, xorPad, hmac}
+use Rattle.hmac.specs.Hmac.{keyBlock, xorPad, hmac}
 use Rattle.hmac.specs.Keyed.{keyed, finishKeyed}
 
 -- ---- any digest
 
 module _ (H : Digest) (k : List ℕ) where
-  pub keyBlock-long : H .block < length k → keyBlock H k ≡ zeroPad (H .block) (H .hash k)
+  pub keyBlock-long : H .block < length k → keyBlock H k ≡ padded (H .block) (H .hash k)
   unfolding keyBlock
   keyBlock-long h = rw (lt-ltb (H .block) (length k) h)
 
-  pub keyBlock-short : length k ≤ H .block → keyBlock H k ≡ zeroPad (H .block) k
+  pub keyBlock-short : length k ≤ H .block → keyBlock H k ≡ padded (H .block) k
   unfolding keyBlock
   keyBlock-short h = rw (le-ltb (H .block) (length k) h)
-
-length-zeroPad : (n : ℕ) (x : List ℕ) → length x ≤ n → length (zeroPad n x) ≡ n
-length-zeroPad n x h = simp (length-append, length-zeros) (omega arith)
 
 -- ---- any lawful digest
 
 module _ (H : Digest) (L : LawfulDigest H) (k : List ℕ) where
   length-keyBlock-by : Dec (length k ≤ H .block) → length (keyBlock H k) ≡ H .block
-  length-keyBlock-by (yes h) = ap length (keyBlock-short H k h) ∙ length-zeroPad (H .block) k h
+  length-keyBlock-by (yes h) = ap length (keyBlock-short H k h) ∙ length-padded (H .block) k h
   length-keyBlock-by (no n) =
-      ap length (keyBlock-long H k (omega arith)) ∙ length-zeroPad (H .block) (H .hash k) (omega (arith, L .str-hash k .len, L .fits))
+      ap length (keyBlock-long H k (omega arith)) ∙ length-padded (H .block) (H .hash k) (omega (arith, L .str-hash k .len, L .fits))
 
   pub length-keyBlock : length (keyBlock H k) ≡ H .block
   length-keyBlock = length-keyBlock-by (decLe (length k) (H .block))

@@ -2,9 +2,9 @@
 ghost use mathlib.Core.Path.{_≡_};
 ghost use Prim.Native.Nat.{_+_, _≤_, _<_, _^_};
 ghost use lib.ListN.{length, replicate};
-ghost use Rattle.octets.specs.Octets.{xors};
+ghost use Rattle.octets.specs.Octets.{xors, padded};
 ghost use Rattle.sha1.specs.Sha1.{compress, initial, sha1};
-ghost use Rattle.hmac.specs.Hmac.{zeroPad, keyBlock, hmac};
+ghost use Rattle.hmac.specs.Hmac.{keyBlock, hmac};
 ghost use Rattle.hmac.specs.Keyed.{keyed, finishKeyed};
 
 // The chaining words after the inner and the outer key block.
@@ -16,7 +16,7 @@ pub struct Keyed {
 // The bytes of t, and zeros.
 fn zero_pad(t: &[u8]) -> [u8; 64]
     requires { ⌜ length (now t) ≤ 64 ⌝ }
-    ensures { λ r. ⌜ r ≡ zeroPad 64 (now (t .entry)) ⌝ }
+    ensures { λ r. ⌜ r ≡ padded 64 (now (t .entry)) ⌝ }
 {
     let mut d = [0u8; 64];
     octets::copy_into(&mut d, 0, t);

@@ -15,8 +15,8 @@ use Rattle.splitter.specs.Diffuse.{diffuse}
 use Rattle.xts.specs.Xts.{xtsEncrypt, xtsDecrypt}
 use Rattle.xts.proofs.UnitLaws.{units-split}
 use Rattle.rules.specs.Facts.{keyMaterial, candidateOf}
-use Rattle.built.specs.Built.{aesXtsSha1}
-use Rattle.keyslot.specs.Keyslot.{slotInput}
+use Rattle.profiles.specs.Suites.{aesXtsSha1}
+use Rattle.rules.specs.Facts.{slotInput}
 
 -- ---- the front of a buffer that was lent to a call, y, and the slot key in it
 

@@ -12,9 +12,8 @@ ghost use Rattle.suite.specs.Units.{inUnits};
 ghost use Rattle.splitter.specs.Diffuse.{diffuse};
 ghost use Rattle.aes.specs.Planes.{Sliced};
 ghost use Rattle.xts.specs.Keys.{Ready, Under, unitDecrypt};
-ghost use Rattle.rules.specs.Facts.{keyMaterial, candidateOf};
-ghost use Rattle.built.specs.Built.{aesXtsSha1};
-ghost use Rattle.keyslot.specs.Keyslot.{slotInput};
+ghost use Rattle.rules.specs.Facts.{slotInput, keyMaterial, candidateOf};
+ghost use Rattle.profiles.specs.Suites.{aesXtsSha1};
 
 // The key of l bytes that a passphrase gives, at the front of 64.
 fn slot_key(passphrase: &[u8], salt: &[u8], count: u32, l: usize) -> [u8; 64]

@@ -11,43 +11,50 @@ use borrow.Author.Tests.{eqb-true, leb-true}
 use Rattle.octets.specs.Octets.{Str}
 use Rattle.octets.proofs.BoolLaws.{and-split}
 use Rattle.octets.proofs.OctetsLaws.{same-eq}
+use Rattle.suite.specs.Suite.{Suite}
 use Rattle.rules.specs.Checks.{first}
-use Rattle.rules.specs.Profiles.{Profile, profileAt}
+use Rattle.rules.specs.Profiles.{Table}
 use Rattle.rules.specs.Layout.{areaStart}
 use Rattle.rules.specs.Facts.{Facts, SlotInput, slotOf, noSlot, isEnabled, enabled, matches, keyMaterial, candidate}
 use Rattle.rules.specs.Header.{headerChecks}
-use Rattle.rules.specs.Calls.{Call, add, change, revoke, openSlot, openAny, read, write, slotNumberOk, passphraseOk, keyOk, countOk, randomOk, fillerOk, rangeChecks, checks, answer}
+use Rattle.rules.specs.Calls.{Call, add, change, revoke, openSlot, openAny, read, write, slotNumberOk, passphraseOk}
+use Rattle.rules.specs.Calls.{keyOk, countOk, randomOk, fillerOk, rangeChecks, earlyChecks, lateChecks, checks, answer}
 use Rattle.rules.specs.Step.{written, recordHead, slotWrites, enableWrites, disableWrites, writes, settle, step, run}
 use Rattle.rules.proofs.ChecksLaws.{Pass, accepted, first-append}
 use Rattle.rules.proofs.StepLaws.{numbered-checks, written-append}
 use Rattle.rules.proofs.ArgumentLaws.{number-in, passphrase-in}
-use Rattle.ledger.specs.Drive.{contentFacts, driveFacts}
-use Rattle.ledger.specs.Ledger.{Ledger, SlotEntry, empty, live, stateOf, countOf, saltOf, areaOf, contentOf, ledgerDrive, ledgerImage, ledgerFacts, setSlot, ledgerAfter, settleEntry, enter, enterAll}
+use Rattle.ledger.specs.Drive.{keyBytesOf, suiteFor, contentFacts, driveFacts}
+use Rattle.ledger.specs.Ledger.{Ledger, SlotEntry, empty, live, stateOf, countOf, saltOf, areaOf, contentOf, ledgerDrive}
+use Rattle.ledger.specs.Ledger.{ledgerImage, ledgerFacts, setSlot, ledgerAfter, settleEntry, enter, enterAll}
 use Rattle.ledger.specs.Demand3.{SlotTyped, Typed, AllTyped, noEntry, entryOf}
 use Rattle.ledger.proofs.PartsLaws.{getD-mapFrom}
 use Rattle.ledger.proofs.AreaLaws.{str-keyMaterial, str-candidateOf}
-use Rattle.ledger.proofs.DriveLaws.{rowOf, keyBytesOf}
-use Rattle.ledger.proofs.LedgerLaws.{Matches, GoodLive, GoodSlot, GoodLedger, facts-are, header-accepted, entry-good, length-payload, slot-good, slot-written, writing-good, payload-written}
+use Rattle.ledger.proofs.LedgerLaws.{Matches, GoodLive, GoodSlot, GoodLedger, contentIn, facts-are, header-accepted, entry-good}
+use Rattle.ledger.proofs.LedgerLaws.{length-payload, slot-good, slot-written, writing-good, payload-written}
 
 -- ---- the facts of a good ledger
 
-module _ (table : List Profile) (l : Ledger) (g : GoodLedger table l) where
-  abbrev p : Profile
-  p = rowOf table (l .input)
+module _ (table : Table) (l : Ledger) (g : GoodLedger table l) where
+  -- the drive's suite
+  abbrev S : Suite
+  S = suiteFor table (l .input)
 
+  -- its stripes
   abbrev n : ℕ
   n = l .input .stripes
 
+  -- its key bytes
   abbrev L : ℕ
   L = keyBytesOf table (l .input)
 
+  -- what the rules read of the ledger
   abbrev f : Facts
   f = ledgerFacts table l
 
-  pub slot-is : (k : ℕ) → 1 ≤ k → k ≤ 8 → slotOf (ledgerFacts table l) k ≡ contentFacts n L (k - 1) (contentOf p n (entryOf l k))
+  pub slot-is : (k : ℕ) → 1 ≤ k → k ≤ 8 → slotOf (ledgerFacts table l) k ≡ contentFacts n L (k - 1) (contentIn table (l .input) (entryOf l k))
   unfolding slotOf ledgerFacts driveFacts ledgerDrive
   slot-is k h i =
-      let c = contentOf p n in
+      let c = contentIn table (l .input) in
       let e = length-map (l .slotEntries) c in
       getD-mapFrom (contentFacts n L) 0 (map c (l .slotEntries)) (k - 1) (c noEntry) noSlot (omega (arith, g .eight))
       ∙ rw (zero-add, List·getD-map c (l .slotEntries) (k - 1) noEntry)
@@ -60,33 +67,32 @@ module _ (table : List Profile) (l : Ledger) (g : GoodLedger table l) where
   unfolding contentFacts
   stripes-at k h i = ap (λ s. s .stripes) (slot-is k h i)
 
-  matches-key : (key : List ℕ) → matches f key ≡ true → Matches p (l .input) key
+  matches-key : (key : List ℕ) → matches f key ≡ true → Matches table (l .input) key
   unfolding matches ledgerFacts driveFacts ledgerDrive
   matches-key key h = same-eq _ _ h
 
-  live-area : (s : SlotEntry) → GoodSlot p (l .input) s → stateOf s ≡ enabled → Str (n * L) (areaOf p n s)
+  live-area : (s : SlotEntry) → GoodSlot table (l .input) s → stateOf s ≡ enabled → Str (n * L) (areaOf S L n s)
   unfolding stateOf areaOf
   live-area (empty area) h e = absurd (omega arith)
   live-area (live key x) h e =
-      str-keyMaterial (p .suite) L (g .input-ok .row .blocks) (g .input-ok .row .lawful) n (g .input-ok .stripes-least) key x (h .random-str) (h .key-str)
+      str-keyMaterial S L (g .input-ok .row .blocks) (g .input-ok .suite) n (g .input-ok .stripes-least) key x (h .random-str) (h .key-str)
 
   str-candidate : (k : ℕ) (passphrase : List ℕ) → 1 ≤ k → k ≤ 8 → isEnabled (slotOf f k) ≡ true → Str L (candidate f k passphrase)
   unfolding candidate isEnabled contentFacts ledgerFacts driveFacts ledgerDrive contentOf
   str-candidate k passphrase h i o =
-      let r = g .input-ok .row in
       let e = slot-is k h i in
       let t : eqb (stateOf (entryOf l k)) enabled ≡ true = sym (ap isEnabled e) ∙ o in
-      rw e (str-candidateOf (p .suite) L (r .blocks) (r .lawful) n (g .input-ok .stripes-least) passphrase _ _ _
+      rw e (str-candidateOf S L (g .input-ok .row .blocks) (g .input-ok .suite) n (g .input-ok .stripes-least) passphrase _ _ _
       (live-area (entryOf l k) (entry-good table l g (k - 1) (omega arith)) (eqb-true _ _ t)))
 
   -- ---- what an accepted call enters is good
 
   live-good : (k : ℕ) (key : List ℕ) (x : SlotInput) → 1 ≤ k → k ≤ 8 → SlotTyped x → Str L key → passphraseOk (x .passphrase) ≡ true → countOk f (x .count) ≡ true
-      → randomOk f k (x .random) ≡ true → matches f key ≡ true → GoodLive p (l .input) key x
+      → randomOk f k (x .random) ≡ true → matches f key ≡ true → GoodLive table (l .input) key x
   unfolding countOk randomOk ledgerFacts driveFacts ledgerDrive
   live-good k key x h i t s po co ro m =
       let q = passphrase-in (x .passphrase) po in
-      let least = leb-true (p .minSlotCount) (x .count) co in
+      let least = leb-true _ (x .count) co in
       record {
         key-str = s;
         passphrase-least = q .0;
@@ -110,29 +116,29 @@ module _ (table : List Profile) (l : Ledger) (g : GoodLedger table l) where
 
   -- ---- and is written as it is entered
 
-  enabled-is : (k : ℕ) → 1 ≤ k → k ≤ 8 → (key : List ℕ) (x : SlotInput) → GoodLive p (l .input) key x
+  enabled-is : (k : ℕ) → 1 ≤ k → k ≤ 8 → (key : List ℕ) (x : SlotInput) → GoodLive table (l .input) key x
       → written (enableWrites f k key x) (ledgerImage table l) ≡ ledgerImage table (setSlot l k (live key x))
   unfolding enableWrites ledgerFacts driveFacts ledgerDrive stateOf countOf saltOf areaOf
   enabled-is k h i key x ok =
-      ap (λ m. written (slotWrites (ledgerFacts table l) k (keyMaterial (p .suite) L m key x) (recordHead enabled (x .count) (x .salt))) (ledgerImage table l)) (stripes-at k h i)
+      ap (λ m. written (slotWrites (ledgerFacts table l) k (keyMaterial S L m key x) (recordHead enabled (x .count) (x .salt))) (ledgerImage table l)) (stripes-at k h i)
       ∙ slot-written table l g k h i (live key x) ok (ledgerFacts table l) (start-at k h i)
 
   -- on the image of a ledger m after l with l's format
-  disabled-is : (m : Ledger) → GoodLedger table m → m .input ≡ l .input → (k : ℕ) → 1 ≤ k → k ≤ 8 → (filler : List ℕ) → GoodSlot (rowOf table (m .input)) (m .input) (empty filler)
+  disabled-is : (m : Ledger) → GoodLedger table m → m .input ≡ l .input → (k : ℕ) → 1 ≤ k → k ≤ 8 → (filler : List ℕ) → GoodSlot table (m .input) (empty filler)
       → written (disableWrites f k filler) (ledgerImage table m) ≡ ledgerImage table (setSlot m k (empty filler))
   unfolding disableWrites stateOf countOf saltOf areaOf
   disabled-is m gm e k h i filler ok =
       slot-written table m gm k h i (empty filler) ok f
-      (start-at k h i ∙ ap (λ a. areaStart (a .stripes) ((profileAt table (a .profile)) .keyBytes) (k - 1)) (sym e))
+      (start-at k h i ∙ ap (λ a. areaStart (a .stripes) (keyBytesOf table a) (k - 1)) (sym e))
 
 -- the image and the ledger after an accepted call
-record Follows (table : List Profile) (f : Facts) (c : Call) (image : List ℕ) (l : Ledger) : Type 0 where
+record Follows (table : Table) (f : Facts) (c : Call) (image : List ℕ) (l : Ledger) : Type 0 where
   image-is : written (writes f c) image ≡ ledgerImage table (ledgerAfter f c l)
   good : GoodLedger table (ledgerAfter f c l)
 
-module _ (table : List Profile) (l : Ledger) (g : GoodLedger table l) where
+module _ (table : Table) (l : Ledger) (g : GoodLedger table l) where
   change-follows : (k : ℕ) (passphrase : List ℕ) (to : ℕ) (x : SlotInput) (filler : List ℕ) → 1 ≤ to → to ≤ 8 → 1 ≤ k → k ≤ 8
-      → GoodLive (rowOf table (l .input)) (l .input) (candidate (ledgerFacts table l) k passphrase) x → GoodSlot (rowOf table (l .input)) (l .input) (empty filler)
+      → GoodLive table (l .input) (candidate (ledgerFacts table l) k passphrase) x → GoodSlot table (l .input) (empty filler)
       → Follows table (ledgerFacts table l) (change k passphrase to x filler) (ledgerImage table l) l
   unfolding writes ledgerAfter setSlot
   change-follows k passphrase to x filler a b h i new old =
@@ -147,7 +153,7 @@ module _ (table : List Profile) (l : Ledger) (g : GoodLedger table l) where
       }
 
   follows : (c : Call) → Typed c → Pass (checks (ledgerFacts table l) c) → Follows table (ledgerFacts table l) c (ledgerImage table l) l
-  unfolding checks rangeChecks writes written ledgerAfter ledgerFacts driveFacts ledgerDrive keyOk
+  unfolding checks earlyChecks lateChecks rangeChecks writes written ledgerAfter ledgerFacts driveFacts ledgerDrive keyOk
   follows (add k key x) t c =
       let r = number-in k (c .0) in
       let s : Str (keyBytesOf table (l .input)) key = record { len = eqb-true _ _ (c .1 .1 .0); byte = t .0 } in
@@ -201,7 +207,7 @@ module _ (table : List Profile) (l : Ledger) (g : GoodLedger table l) where
 
 -- ---- a list of calls
 
-pub run-follows : (table : List Profile) (l : Ledger) (cs : List Call) → GoodLedger table l → AllTyped cs
+pub run-follows : (table : Table) (l : Ledger) (cs : List Call) → GoodLedger table l → AllTyped cs
     → (run table (ledgerImage table l) cs ≡ record { answers = enterAll table l cs .answers; image = ledgerImage table (enterAll table l cs .ledger) })
     × GoodLedger table (enterAll table l cs .ledger)
 unfolding run enterAll

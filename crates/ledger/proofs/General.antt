@@ -1,17 +1,17 @@
 -- Demand 3 for any lawful table of profiles: every list of calls after an accepted format follows the ledger.
 use mathlib.Core.Path.{_≡_, refl, sym, ap, _∙_}
-use mathlib.Core.List.{List, [], _∷_, _++_}
+use mathlib.Core.List.{List, [], _∷_}
 use mathlib.Core.Bool.{Bool, true, false}
-use Prim.Native.Nat.{ℕ, _-_}
-use lib.ListN.{length}
-use Rattle.octets.specs.Octets.{zeros}
-use Rattle.rules.specs.Profiles.{Profile, profileAt}
+use Prim.Native.Nat.{ℕ}
+use Rattle.octets.specs.Octets.{padded}
+use Rattle.rules.specs.Profiles.{Table}
+use Rattle.rules.specs.Lawful.{LawfulTable}
 use Rattle.rules.specs.Facts.{Facts}
 use Rattle.rules.specs.Calls.{Call, add, change, revoke, openSlot, openAny, read, write, Answer}
 use Rattle.rules.specs.Step.{step, run}
 use Rattle.rules.specs.Format.{FormatInput, format}
 use Rattle.ledger.specs.Ledger.{Ledger, ledgerImage, ledgerFacts, setSlot, setSectors, ledgerAfter, settleEntry, enter, enterAll, startLedger}
-use Rattle.ledger.specs.Lawful.{LawfulTable}
+use Rattle.ledger.specs.Drive.{keyBytesOf}
 use Rattle.ledger.specs.Demand3.{FormatTyped, Typed, AllTyped, addAccepted, answersGiven, lastImage, ledgerAnswers, lastLedger, Demand3}
 use Rattle.ledger.proofs.LedgerLaws.{GoodLedger}
 use Rattle.ledger.proofs.EnterLaws.{step-follows, run-follows}
@@ -36,14 +36,14 @@ unfolding settleEntry
 settled-input f c l r true = after-input f c l
 settled-input f c l r false = refl
 
-input-stays : (table : List Profile) (l : Ledger) (cs : List Call) → enterAll table l cs .ledger .input ≡ l .input
+input-stays : (table : Table) (l : Ledger) (cs : List Call) → enterAll table l cs .ledger .input ≡ l .input
 unfolding enterAll enter
 input-stays table l [] = refl
 input-stays table l (c ∷ cs) = input-stays table (enter table l c .ledger) cs ∙ settled-input (ledgerFacts table l) c l _ _
 
 -- ---- the theorem
 
-module _ (table : List Profile) (lawful : LawfulTable table) where
+module _ (table : Table) (lawful : LawfulTable table) where
   -- the end of a list, on the image and on the ledger
   module _ (a : FormatInput) (typed : FormatTyped a) (image : List ℕ) (yes′ : format table a image .code ≡ 0) (cs : List Call) (t : AllTyped cs) where
     ends : run table (format table a image .image) cs ≡ record { answers = ledgerAnswers table a image cs; image = ledgerImage table (lastLedger table a image cs) }
@@ -77,9 +77,9 @@ module _ (table : List Profile) (lawful : LawfulTable table) where
         answers-are = answers-end a typed image yes′ cs t;
         live-opens = λ k h i key x e.
             says a typed image yes′ cs t (openSlot k (x .passphrase)) tt ∙ live-answer table end g k h i key x e
-            ∙ ap (λ (b : FormatInput). openedWith k ((profileAt table (b .profile)) .keyBytes) key) (input-is a typed image yes′ cs t);
-        written-reads = λ u h key plain e buffer b.
-            says a typed image yes′ cs t (read key u 1 buffer) tt ∙ written-answer table end g u h key plain e buffer b;
+            ∙ ap (λ (b : FormatInput). openedWith k (keyBytesOf table b) key) (input-is a typed image yes′ cs t);
+        written-reads = λ u key plain e buffer b.
+            says a typed image yes′ cs t (read key u 1 buffer) tt ∙ written-answer table end g u key plain e buffer b;
         one-image = λ a′ typed′ image′ yes″ cs′ t′ e.
             image-ends a typed image yes′ cs t ∙ ap (ledgerImage table) e ∙ sym (image-ends a′ typed′ image′ yes″ cs′ t′);
         some-live = λ h.
@@ -88,4 +88,4 @@ module _ (table : List Profile) (lawful : LawfulTable table) where
       }
     where
       openedWith : ℕ → ℕ → List ℕ → Answer
-      openedWith k L key = record { code = 0; slot = k; keyLength = L; key = key ++ zeros (64 - length key); bytes = [] }
+      openedWith k L key = record { code = 0; slot = k; keyLength = L; key = padded 64 key; bytes = [] }

@@ -11,48 +11,65 @@ use lib.Seq.{getD-set-same, getD-set-other}
 use borrow.Author.Tests.{eqb-true, not-true}
 use Rattle.octets.proofs.BoolLaws.{and-split, or-split, no}
 use Rattle.rules.specs.Checks.{first}
-use Rattle.rules.specs.Profiles.{Profile}
+use Rattle.suite.specs.Suite.{Suite}
+use Rattle.rules.specs.Profiles.{Table}
 use Rattle.rules.specs.Facts.{SlotInput, slotOf, isEnabled, enabled, candidate}
-use Rattle.rules.specs.Calls.{Call, add, change, revoke, openSlot, openAny, read, write, slotNumberOk, anyEnabled, otherEnabled, checks, refused}
+use Rattle.rules.specs.Calls.{Call, add, change, revoke, openSlot, openAny, read, write, slotNumberOk, anyEnabled, otherEnabled, earlyChecks, lateChecks, checks, refused}
 use Rattle.rules.proofs.ChecksLaws.{Pass, accepted}
 use Rattle.rules.proofs.StepLaws.{numbered-checks}
 use Rattle.rules.proofs.ArgumentLaws.{number-in}
-use Rattle.ledger.specs.Drive.{mapFrom, contentFacts, driveFacts}
+use Rattle.ledger.specs.Drive.{mapFrom, keyBytesOf, suiteFor, contentFacts, driveFacts}
 use Rattle.ledger.specs.Ledger.{Ledger, SlotEntry, empty, live, stateOf, contentOf, ledgerDrive, ledgerFacts, setSlot, setSectors, ledgerAfter, settleEntry, enter, enterAll}
 use Rattle.ledger.specs.Demand3.{AllTyped, noEntry, SomeLive, isAdd, addAccepted}
-use Rattle.ledger.proofs.DriveLaws.{rowOf}
 use Rattle.ledger.proofs.LedgerLaws.{GoodLedger}
 use Rattle.ledger.proofs.EnterLaws.{step-follows}
 
 -- ---- entries: indices from 0
 
--- one of the entries is live, and one other than that at k
+-- one of the entries is live
 abbrev Some : List SlotEntry → Type 0
 Some xs = (j : ℕ) × (j < length xs) × (stateOf (getD xs j noEntry) ≡ enabled)
 
+-- one other than that at k is
 abbrev Other : List SlotEntry → ℕ → Type 0
 Other xs k = (j : ℕ) × (j < length xs) × (j ≢ k) × (stateOf (getD xs j noEntry) ≡ enabled)
 
-module _ (p : Profile) (n : ℕ) where
-  any-some : (i : ℕ) (xs : List SlotEntry) → anyEnabled (mapFrom (contentFacts n (p .keyBytes)) i (map (contentOf p n) xs)) ≡ true → Some xs
+module _ (S : Suite) (L n : ℕ) where
+  any-some : (i : ℕ) (xs : List SlotEntry) → anyEnabled (mapFrom (contentFacts n L) i (map (contentOf S L n) xs)) ≡ true → Some xs
   unfolding anyEnabled mapFrom isEnabled contentFacts contentOf
   any-some i [] h = no h
   any-some i (x ∷ xs) h =
-      or-split (eqb (stateOf x) enabled) (anyEnabled (mapFrom (contentFacts n (p .keyBytes)) (suc i) (map (contentOf p n) xs))) h
+      or-split (eqb (stateOf x) enabled) (anyEnabled (mapFrom (contentFacts n L) (suc i) (map (contentOf S L n) xs))) h
       (λ e. (0, omega arith, eqb-true _ _ e))
       (λ e. let r = any-some (suc i) xs e in (suc (r .0), omega arith, r .2))
 
-  other-some : (i : ℕ) (xs : List SlotEntry) (k : ℕ) → otherEnabled (mapFrom (contentFacts n (p .keyBytes)) i (map (contentOf p n) xs)) k ≡ true → Other xs k
+  other-some : (i : ℕ) (xs : List SlotEntry) (k : ℕ) → otherEnabled (mapFrom (contentFacts n L) i (map (contentOf S L n) xs)) k ≡ true → Other xs k
   unfolding otherEnabled mapFrom isEnabled contentFacts contentOf
   other-some i [] k h = no h
   other-some i (x ∷ xs) zero h = let r = any-some (suc i) xs h in (suc (r .0), omega arith, omega arith, r .2)
   other-some i (x ∷ xs) (suc k) h =
-      or-split (eqb (stateOf x) enabled) (otherEnabled (mapFrom (contentFacts n (p .keyBytes)) (suc i) (map (contentOf p n) xs)) k) h
+      or-split (eqb (stateOf x) enabled) (otherEnabled (mapFrom (contentFacts n L) (suc i) (map (contentOf S L n) xs)) k) h
       (λ e. (0, omega arith, omega arith, eqb-true _ _ e))
       (λ e. let r = other-some (suc i) xs k e in (suc (r .0), omega arith, omega arith, r .3))
 
+-- an entry whose state is enabled has a key and what it was added with
+live-entry : (s : SlotEntry) → stateOf s ≡ enabled → (key : List ℕ) × (x : SlotInput) × (s ≡ live key x)
+unfolding stateOf
+live-entry (empty area) e = absurd (omega arith)
+live-entry (live key x) e = (key, x, refl)
+
 live-at : (l : Ledger) (j : ℕ) → j < 8 → stateOf (getD (l .slotEntries) j noEntry) ≡ enabled → SomeLive l
-live-at l j h e = let i : (j + 1) - 1 ≡ j = omega arith in (j + 1, omega arith, omega arith, ap (λ (m : ℕ). stateOf (getD (l .slotEntries) m noEntry)) i ∙ e)
+live-at l j h e =
+    let i : (j + 1) - 1 ≡ j = omega arith in
+    let q = live-entry (getD (l .slotEntries) j noEntry) e in
+    record {
+      slot = j + 1;
+      least = omega arith;
+      most = omega arith;
+      key = q .0;
+      input = q .1;
+      entry-is = ap (λ (m : ℕ). getD (l .slotEntries) m noEntry) i ∙ q .2;
+    }
 
 set-other : (l : Ledger) (j k : ℕ) (s : SlotEntry) → j < 8 → j ≢ (k - 1) → stateOf (getD (l .slotEntries) j noEntry) ≡ enabled → SomeLive (setSlot l k s)
 unfolding setSlot
@@ -66,13 +83,13 @@ set-same l k h key x = ap stateOf (getD-set-same (l .slotEntries) (k - 1) (live 
 
 -- ---- calls
 
-module _ (table : List Profile) (l : Ledger) (g : GoodLedger table l) where
+module _ (table : Table) (l : Ledger) (g : GoodLedger table l) where
   set-live : (k : ℕ) → 1 ≤ k → k ≤ 8 → (key : List ℕ) (x : SlotInput) → SomeLive (setSlot l k (live key x))
   set-live k h i key x = live-at (setSlot l k (live key x)) (k - 1) (omega arith) (set-same l k (omega (arith, g .eight)) key x)
 
   -- an accepted call leaves a live slot
   stays-live : (c : Call) → Pass (checks (ledgerFacts table l) c) → SomeLive l → SomeLive (ledgerAfter (ledgerFacts table l) c l)
-  unfolding checks ledgerAfter ledgerFacts driveFacts ledgerDrive setSectors
+  unfolding checks earlyChecks lateChecks ledgerAfter ledgerFacts driveFacts ledgerDrive setSectors
   stays-live (add k key x) c a = let r = number-in k (c .0) in set-live k (r .0) (r .1) key x
   stays-live (change k passphrase to x filler) c a =
       let f = ledgerFacts table l in
@@ -88,16 +105,17 @@ module _ (table : List Profile) (l : Ledger) (g : GoodLedger table l) where
       no (sym off ∙ on) in
       set-other (setSlot l to new) (to - 1) k (empty filler) (omega arith) d (set-same l to (omega (arith, g .eight)) _ x)
   stays-live (revoke k filler) c a =
-      let r = other-some (rowOf table (l .input)) (l .input .stripes) 0 (l .slotEntries) (k - 1) (c .1 .1 .0) in
+      let r = other-some (suiteFor table (l .input)) (keyBytesOf table (l .input)) (l .input .stripes) 0 (l .slotEntries) (k - 1) (c .1 .1 .0) in
       set-other l (r .0) k (empty filler) (omega (arith, g .eight)) (r .2) (r .3)
   stays-live (openSlot k passphrase) c a = a
   stays-live (openAny passphrase) c a = a
   stays-live (read key u n buffer) c a = a
-  stays-live (write key u n buffer) c a = a
+  stays-live (write key u n buffer) c a =
+      record { slot = a .slot; least = a .least; most = a .most; key = a .key; input = a .input; entry-is = a .entry-is }
 
   -- an accepted add makes one
   add-live : (c : Call) → isAdd c ≡ true → Pass (checks (ledgerFacts table l) c) → SomeLive (ledgerAfter (ledgerFacts table l) c l)
-  unfolding isAdd checks ledgerAfter
+  unfolding isAdd checks earlyChecks lateChecks ledgerAfter
   add-live (add k key x) e c = let r = number-in k (c .0) in set-live k (r .0) (r .1) key x
   add-live (change k passphrase to x filler) e c = no e
   add-live (revoke k filler) e c = no e
@@ -106,6 +124,7 @@ module _ (table : List Profile) (l : Ledger) (g : GoodLedger table l) where
   add-live (read key u n buffer) e c = no e
   add-live (write key u n buffer) e c = no e
 
+  -- the number of the first check that fails
   abbrev code : Call → ℕ
   code c = first (checks (ledgerFacts table l) c)
 
@@ -133,12 +152,12 @@ module _ (table : List Profile) (l : Ledger) (g : GoodLedger table l) where
 
 -- ---- lists of calls
 
-all-stay-live : (table : List Profile) (l : Ledger) (cs : List Call) → GoodLedger table l → AllTyped cs → SomeLive l → SomeLive (enterAll table l cs .ledger)
+all-stay-live : (table : Table) (l : Ledger) (cs : List Call) → GoodLedger table l → AllTyped cs → SomeLive l → SomeLive (enterAll table l cs .ledger)
 unfolding enterAll
 all-stay-live table l [] g t a = a
 all-stay-live table l (c ∷ cs) g t a = all-stay-live table (enter table l c .ledger) cs (step-follows table l g c (t .0) .1) (t .1) (entered-live table l g c a)
 
-pub add-stays-live : (table : List Profile) (l : Ledger) (cs : List Call) → GoodLedger table l → AllTyped cs
+pub add-stays-live : (table : Table) (l : Ledger) (cs : List Call) → GoodLedger table l → AllTyped cs
     → addAccepted cs (enterAll table l cs .answers) ≡ true → SomeLive (enterAll table l cs .ledger)
 unfolding enterAll addAccepted
 add-stays-live table l [] g t a = no a

@@ -8,29 +8,34 @@ use native.Mathlib.Omega.{arith}
 use lib.Dec.{ltb}
 use lib.ListN.{length, drop, getD}
 use borrow.Author.Tests.{lt-ltb, le-leb, eq-eqb, ne-eqb}
-use Rattle.octets.specs.Octets.{quadAt}
-use Rattle.octets.specs.Splice.{slice}
+use Rattle.octets.specs.Octets.{be32At}
+use Rattle.octets.specs.Splice.{part}
 use Rattle.octets.proofs.OctetsLaws.{same-refl}
-use Rattle.rules.specs.Profiles.{Profile, profileAt}
+use Rattle.rules.specs.Checks.{every}
+use Rattle.rules.specs.Profiles.{Table, profileAt}
 use Rattle.rules.specs.Layout.{areaStart, payloadStart, slots}
 use Rattle.rules.specs.Facts.{SlotFacts, slotAt, profileIn, factsOf}
-use Rattle.rules.specs.Header.{magic, version, sizeOk, every, recordOk, slotOk, areaEnd, inside, apart, allApart, soundChecks, headerChecks}
+use Rattle.rules.specs.Header.{magic, version, sizeOk, recordOk, slotOk, areaEnd, inside, apart, allApart, soundChecks, headerChecks}
 use Rattle.rules.specs.Format.{headFields}
 use Rattle.rules.proofs.ChecksLaws.{Pass}
-use Rattle.ledger.specs.Drive.{SlotContent, Drive, mapFrom, recordOf, driveImage, contentFacts, driveFacts}
+use Rattle.ledger.specs.Drive.{SlotContent, Drive, mapFrom, keyBytesOf, recordOf, driveImage, contentFacts, driveFacts}
 use Rattle.ledger.proofs.PartsLaws.{upto, tab}
 use Rattle.ledger.proofs.LayoutLaws.{start-is, bytes-fit, sectors-fit, payload-is, payload-most, start-most, area-ends}
-use Rattle.ledger.proofs.DriveLaws.{GoodDrive, GoodContent, keyBytesOf, quad-field, recordFields, record-field, noContent, contentAt, content-ok, header-field, record-at, area-at, payload-at, length-driveImage}
+use Rattle.ledger.proofs.DriveLaws.{GoodDrive, GoodContent, be32-field, recordFields, record-field, noContent, contentAt}
+use Rattle.ledger.proofs.DriveLaws.{content-ok, header-field, record-at, area-at, payload-at, length-driveImage}
 
 -- ---- facts
 
-module _ (table : List Profile) (d : Drive) (g : GoodDrive table d) where
+module _ (table : Table) (d : Drive) (g : GoodDrive table d) where
+  -- the drive's stripes
   abbrev n : ℕ
   n = d .input .stripes
 
+  -- its key bytes
   abbrev L : ℕ
   L = keyBytesOf table (d .input)
 
+  -- its image
   abbrev image : List ℕ
   image = driveImage table d
 
@@ -38,34 +43,34 @@ module _ (table : List Profile) (d : Drive) (g : GoodDrive table d) where
   unfolding slotAt contentFacts recordOf recordFields
   slot-read k h =
       let c = contentAt d k in
-      let r = slice image (208 + k * 48) 48 in
+      let r = part image (208 + k * 48) 48 in
       let e = record-at table d g k h in
       let ok = content-ok table d g k h in
       let o = g .input-ok in
       let f = record-field n L (c .state) (c .count) (c .salt) k (ok .salt-is) in
-      let state = quad-field r 0 (c .state) (ap (λ x. slice x 0 4) e ∙ f 0 (omega arith)) (ok .state-most) in
-      let count = quad-field r 4 (c .count) (ap (λ x. slice x 4 4) e ∙ f 1 (omega arith)) (ok .count-most) in
-      let salt = ap (λ x. slice x 8 32) e ∙ f 2 (omega arith) in
-      let start = quad-field r 40 (areaStart n L k) (ap (λ x. slice x 40 4) e ∙ f 3 (omega arith)) (start-most n L (o .stripes-most) (o .row .key-most) k h) in
-      let stripes = quad-field r 44 n (ap (λ x. slice x 44 4) e ∙ f 4 (omega arith)) (omega (arith, o .stripes-most)) in
-      let area = ap₂ (λ x y. slice image (x * 512) (y * L)) start stripes ∙ area-at table d g k h in
+      let state = be32-field r 0 (c .state) (ap (λ x. part x 0 4) e ∙ f 0 (omega arith)) (ok .state-most) in
+      let count = be32-field r 4 (c .count) (ap (λ x. part x 4 4) e ∙ f 1 (omega arith)) (ok .count-most) in
+      let salt = ap (λ x. part x 8 32) e ∙ f 2 (omega arith) in
+      let start = be32-field r 40 (areaStart n L k) (ap (λ x. part x 40 4) e ∙ f 3 (omega arith)) (start-most n L (o .stripes-most) (o .row .key-most) k h) in
+      let stripes = be32-field r 44 n (ap (λ x. part x 44 4) e ∙ f 4 (omega arith)) (omega (arith, o .stripes-most)) in
+      let area = ap₂ (λ x y. part image (x * 512) (y * L)) start stripes ∙ area-at table d g k h in
       λ i. record { state = state i; count = count i; salt = salt i; start = start i; stripes = stripes i; area = area i }
 
-  key-read : quadAt image 108 ≡ L
+  key-read : be32At image 108 ≡ L
   unfolding headFields
-  key-read = quad-field image 108 L (header-field table d g 6 (omega arith) (omega arith)) (omega (arith, g .input-ok .row .key-most))
+  key-read = be32-field image 108 L (header-field table d g 6 (omega arith) (omega arith)) (omega (arith, g .input-ok .row .key-most))
 
-  payload-read : quadAt image 104 ≡ payloadStart n L
+  payload-read : be32At image 104 ≡ payloadStart n L
   unfolding headFields
-  payload-read = quad-field image 104 (payloadStart n L) (header-field table d g 5 (omega arith) (omega arith)) (payload-most n L (g .input-ok .stripes-most) (g .input-ok .row .key-most))
+  payload-read = be32-field image 104 (payloadStart n L) (header-field table d g 5 (omega arith) (omega arith)) (payload-most n L (g .input-ok .stripes-most) (g .input-ok .row .key-most))
 
-  profile-read : profileIn table image ≡ d .input .profile
+  profile-read : profileIn (table .rows) image ≡ d .input .profile
   unfolding headFields profileIn
   profile-read =
       let f = header-field table d g in
       rw (key-read, f 2 (omega arith) (omega arith), f 3 (omega arith) (omega arith), f 4 (omega arith) (omega arith)) (g .input-ok .row .found)
 
-  slots-read : map (slotAt image (quadAt image 108)) slots ≡ mapFrom (contentFacts n L) 0 (d .contents)
+  slots-read : map (slotAt image (be32At image 108)) slots ≡ mapFrom (contentFacts n L) 0 (d .contents)
   slots-read =
       ap (λ x. map (slotAt image x) slots) key-read
       ∙ ap (λ x. map (slotAt image L) (upto 0 x)) (sym (g .eight))
@@ -75,12 +80,13 @@ module _ (table : List Profile) (d : Drive) (g : GoodDrive table d) where
   unfolding factsOf driveFacts headFields
   facts-read =
       let f = header-field table d g in
-      let row = ap (profileAt table) profile-read in
+      let row = ap (profileAt (table .rows)) profile-read in
+      let suite = ap (table .suiteOf) profile-read in
       let sum = f 7 (omega arith) (omega arith) in
       let salt = f 8 (omega arith) (omega arith) in
-      let count = quad-field image 164 (d .input .count) (f 9 (omega arith) (omega arith)) (g .input-ok .count-most) in
+      let count = be32-field image 164 (d .input .count) (f 9 (omega arith) (omega arith)) (g .input-ok .count-most) in
       let payload = ap (λ x. drop (x * 512) image) payload-read ∙ payload-at table d g in
-      λ i. record { profile = row i; payloadAt = payload-read i; checksum = sum i; sumSalt = salt i; sumCount = count i; slotFacts = slots-read i; payload = payload i }
+      λ i. record { profile = row i; suite = suite i; payloadAt = payload-read i; checksum = sum i; checksumSalt = salt i; checksumCount = count i; slotFacts = slots-read i; payload = payload i }
 
 -- ---- the header check
 
@@ -122,7 +128,7 @@ slot-inside L n k c h =
     let r : areaStart n L k * 512 + n * L ≤ payloadStart n L * 512 = omega arith in
     rw (le-leb _ _ q, le-leb _ _ r)
 
-module _ (table : List Profile) (d : Drive) (g : GoodDrive table d) where
+module _ (table : Table) (d : Drive) (g : GoodDrive table d) where
   sound-passes : Pass (soundChecks (driveFacts table d) (length (driveImage table d)))
   unfolding soundChecks driveFacts
   sound-passes =

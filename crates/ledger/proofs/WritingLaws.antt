@@ -1,36 +1,39 @@
 -- Writing a slot, or sectors of the payload, of a good drive's image gives the image of the drive with that slot, or those sectors.
 use mathlib.Core.Path.{_≡_, sym, ap, _∙_}
-use mathlib.Core.List.{List, [], _∷_, _++_}
+use mathlib.Core.List.{List, [], _∷_, _++_, flatten}
 use Prim.Native.Nat.{ℕ, _+_, _-_, _*_, _≤_}
 use native.Mathlib.Nat.{zero-add}
 use native.Mathlib.Omega.{arith}
-use lib.ListN.{length, take, set, length-set}
-use Rattle.octets.specs.Octets.{zeros, bigEndian}
+use lib.ListN.{length, set, length-set}
+use Rattle.octets.specs.Octets.{zeros, be32}
 use Rattle.octets.specs.Splice.{splice}
 use Rattle.octets.proofs.OctetsLaws.{length-zeros}
 use Rattle.octets.proofs.SpliceLaws.{splice-here, splice-all}
-use Rattle.rules.specs.Profiles.{Profile}
+use Rattle.octets.proofs.PartsLaws.{Widths, length-flatten}
+use Rattle.rules.specs.Profiles.{Table}
 use Rattle.rules.specs.Layout.{areaStart, payloadStart}
 use Rattle.rules.specs.Facts.{Facts, slotOf}
 use Rattle.rules.specs.Step.{written, recordHead, slotWrites}
-use Rattle.rules.specs.Format.{concat, headFields, slotRecord}
+use Rattle.rules.specs.Format.{slotRecord}
 use Rattle.rules.proofs.FormatLaws.{length-recordHead}
-use Rattle.ledger.specs.Drive.{SlotContent, Drive, mapFrom, areaRoom, recordOf, roomOf, imageParts, driveImage}
-use Rattle.ledger.proofs.PartsLaws.{Widths, offset, put, row-put, rows-splice, RowsTo, length-mapFrom, set-mapFrom, length-concat, length-uniform}
+use Rattle.ledger.specs.Drive.{SlotContent, Drive, mapFrom, keyBytesOf, gapBytes, areaRoom, recordOf, roomOf, imageParts, driveImage}
+use Rattle.ledger.proofs.PartsLaws.{offset, put, row-put, rows-splice, RowsTo, length-mapFrom, set-mapFrom, length-uniform}
 use Rattle.ledger.proofs.LayoutLaws.{stride, start-is, payload-is, room-inner, room-fits, area-ends}
-use Rattle.ledger.proofs.AllLaws.{All, all-get, all-set, all-append, all-take, all-drop}
-use Rattle.ledger.proofs.DriveLaws.{GoodDrive, GoodContent, rowOf, keyBytesOf, Sector, headWidths, head-widths, contentAt, content-ok, records, rooms, record-is, room-is, length-record, length-room, length-records, length-rooms, sector-rows, length-sectors, widths, part-widths}
+use Rattle.ledger.proofs.AllLaws.{All, all-get, all-set}
+use Rattle.ledger.proofs.DriveLaws.{GoodDrive, GoodContent, Sector, headOf, headWidths, head-widths, contentAt, content-ok, records, rooms, record-is}
+use Rattle.ledger.proofs.DriveLaws.{room-is, length-record, length-room, length-records, length-rooms, sector-rows, length-sectors, widths, part-widths}
 
 -- slot k, 1 to 8
 unfoldable pub setContent : Drive → ℕ → SlotContent → Drive
 setContent d k c = record { input = d .input; contents = set (d .contents) (k - 1) c; sectors = d .sectors }
 
+-- the payload's sectors
 unfoldable pub setBytes : Drive → List (List ℕ) → Drive
 setBytes d xs = record { input = d .input; contents = d .contents; sectors = xs }
 
 -- ---- a slot
 
-pub good-content : (table : List Profile) (d : Drive) (g : GoodDrive table d) (k : ℕ) (c : SlotContent) → GoodContent (d .input .stripes) (keyBytesOf table (d .input)) c
+pub good-content : (table : Table) (d : Drive) (g : GoodDrive table d) (k : ℕ) (c : SlotContent) → GoodContent (d .input .stripes) (keyBytesOf table (d .input)) c
     → GoodDrive table (setContent d k c)
 unfolding setContent
 good-content table d g k c h =
@@ -41,28 +44,31 @@ good-content table d g k c h =
       sectors-ok = g .sectors-ok;
     }
 
-module _ (table : List Profile) (d : Drive) (g : GoodDrive table d) (k : ℕ) (hk : 1 ≤ k) (h8 : k ≤ 8) (c : SlotContent) (ok : GoodContent (d .input .stripes) (keyBytesOf table (d .input)) c) where
+module _ (table : Table) (d : Drive) (g : GoodDrive table d) (k : ℕ) (hk : 1 ≤ k) (h8 : k ≤ 8) (c : SlotContent) (ok : GoodContent (d .input .stripes) (keyBytesOf table (d .input)) c) where
+  -- the drive's stripes
   abbrev n : ℕ
   n = d .input .stripes
 
+  -- its key bytes
   abbrev L : ℕ
   L = keyBytesOf table (d .input)
 
+  -- the fields of its header
   abbrev head : List (List ℕ)
-  head = headFields (rowOf table (d .input)) (d .input)
+  head = headOf table (d .input)
 
   -- the image's parts with slot k's area written and its record not yet
   unfoldable areaWritten : List (List ℕ)
-  areaWritten = concat head ∷ concat (records table d g) ∷ zeros 3504 ∷ concat (mapFrom (roomOf n L) 0 (set (d .contents) (k - 1) c)) ∷ concat (d .sectors) ∷ []
+  areaWritten = flatten head ∷ flatten (records table d g) ∷ zeros gapBytes ∷ flatten (mapFrom (roomOf n L) 0 (set (d .contents) (k - 1) c)) ∷ flatten (d .sectors) ∷ []
 
   areaWritten-widths : Widths areaWritten (widths table d g)
   unfolding areaWritten setContent
   areaWritten-widths = (
-    length-concat head headWidths (head-widths table (d .input) (g .input-ok)),
-    (length-records table d g, (length-zeros 3504, (length-rooms table (setContent d k c) (good-content table d g k c ok), (length-sectors table d g, tt)))),
+    length-flatten head headWidths (head-widths table (d .input) (g .input-ok)),
+    (length-records table d g, (length-zeros gapBytes, (length-rooms table (setContent d k c) (good-content table d g k c ok), (length-sectors table d g, tt)))),
   )
 
-  area-put : splice (driveImage table d) (areaStart n L (k - 1) * 512) (c .area) ≡ concat areaWritten
+  area-put : splice (driveImage table d) (areaStart n L (k - 1) * 512) (c .area) ≡ flatten areaWritten
   unfolding driveImage imageParts roomOf areaWritten
   area-put =
       let j = k - 1 in
@@ -76,10 +82,10 @@ module _ (table : List Profile) (d : Drive) (g : GoodDrive table d) (k : ℕ) (h
       let r = room-fits n L j (omega arith) in
       let i = length-mapFrom (roomOf n L) 0 (d .contents) in
       ap (λ x. splice (driveImage table d) x (c .area)) e
-      ∙ put (imageParts (rowOf table (d .input)) d) (widths table d g) (part-widths table d g) 3 (j * W + 0) (c .area) (omega arith) (omega arith)
-      ∙ ap (λ x. concat (concat head ∷ concat (records table d g) ∷ zeros 3504 ∷ x ∷ concat (d .sectors) ∷ []))
+      ∙ put (imageParts table d) (widths table d g) (part-widths table d g) 3 (j * W + 0) (c .area) (omega arith) (omega arith)
+      ∙ ap (λ x. flatten (flatten head ∷ flatten (records table d g) ∷ zeros gapBytes ∷ x ∷ flatten (d .sectors) ∷ []))
       (row-put (rooms table d g) W j 0 (c .area) (λ i h. length-room table d g i (omega arith) ∙ room-inner n L i (omega arith)) (omega (arith, g .eight)) (omega arith)
-      ∙ ap concat
+      ∙ ap flatten
       (ap (λ x. set (rooms table d g) j x)
       (ap (λ x. splice x 0 (c .area)) (room-is table d g j (omega arith))
       ∙ splice-here ((contentAt d j) .area) _ (c .area) 0 (omega arith)
@@ -87,7 +93,7 @@ module _ (table : List Profile) (d : Drive) (g : GoodDrive table d) (k : ℕ) (h
       ∙ ap (λ x. roomOf n L x c) (sym (zero-add j)))
       ∙ set-mapFrom (roomOf n L) 0 (d .contents) j c))
 
-  record-put : splice (concat areaWritten) (208 + (k - 1) * 48) (recordHead (c .state) (c .count) (c .salt)) ≡ driveImage table (setContent d k c)
+  record-put : splice (flatten areaWritten) (208 + (k - 1) * 48) (recordHead (c .state) (c .count) (c .salt)) ≡ driveImage table (setContent d k c)
   unfolding areaWritten setContent driveImage imageParts recordOf slotRecord
   record-put =
       let j = k - 1 in
@@ -98,15 +104,15 @@ module _ (table : List Profile) (d : Drive) (g : GoodDrive table d) (k : ℕ) (h
       let i = length-mapFrom (recordOf n L) 0 (d .contents) in
       let l = length-record table d g j (omega arith) in
       let e : 208 + j * 48 ≡ 208 + (j * 48 + 0) = omega arith in
-      ap (λ x. splice (concat areaWritten) x r) e
+      ap (λ x. splice (flatten areaWritten) x r) e
       ∙ put areaWritten (widths table d g) areaWritten-widths 1 (j * 48 + 0) r (omega arith) (omega arith)
-      ∙ ap (λ x. concat (concat head ∷ x ∷ zeros 3504 ∷ concat (mapFrom (roomOf n L) 0 (set (d .contents) j c)) ∷ concat (d .sectors) ∷ []))
+      ∙ ap (λ x. flatten (flatten head ∷ x ∷ zeros gapBytes ∷ flatten (mapFrom (roomOf n L) 0 (set (d .contents) j c)) ∷ flatten (d .sectors) ∷ []))
       (row-put (records table d g) 48 j 0 r (λ i h. length-record table d g i (omega arith)) (omega (arith, g .eight)) (omega arith)
-      ∙ ap concat
+      ∙ ap flatten
       (ap (λ x. set (records table d g) j x)
       (ap (λ x. splice x 0 r) (record-is table d g j (omega arith))
       ∙ splice-here (recordHead (b .state) (b .count) (b .salt)) _ r 0 (omega arith)
-      ∙ ap (λ x. x ++ (bigEndian 4 (areaStart n L j) ++ bigEndian 4 n)) (splice-all (recordHead (b .state) (b .count) (b .salt)) r (w ∙ sym v))
+      ∙ ap (λ x. x ++ (be32 (areaStart n L j) ++ be32 n)) (splice-all (recordHead (b .state) (b .count) (b .salt)) r (w ∙ sym v))
       ∙ ap (λ x. recordOf n L x c) (sym (zero-add j)))
       ∙ set-mapFrom (recordOf n L) 0 (d .contents) j c))
 
@@ -117,31 +123,20 @@ module _ (table : List Profile) (d : Drive) (g : GoodDrive table d) (k : ℕ) (h
 
 -- ---- the payload
 
-module _ (table : List Profile) (d : Drive) (g : GoodDrive table d) (u : ℕ) (xs : List (List ℕ)) (ok : All Sector xs) (room : u + length xs ≤ length (d .sectors)) where
-  pub good-bytes : GoodDrive table (setBytes d (splice (d .sectors) u xs))
-  unfolding setBytes splice
-  good-bytes =
-      record {
-        input-ok = g .input-ok;
-        eight = g .eight;
-        contents-ok = g .contents-ok;
-        sectors-ok = all-append Sector (take u (d .sectors)) _ (all-take Sector u (d .sectors) (g .sectors-ok))
-            (all-append Sector xs _ ok (all-drop Sector (u + length xs) (d .sectors) (g .sectors-ok)));
-      }
-
+module _ (table : Table) (d : Drive) (g : GoodDrive table d) (u : ℕ) (xs : List (List ℕ)) (ok : All Sector xs) (room : u + length xs ≤ length (d .sectors)) where
   new-rows : RowsTo xs 512 (length xs)
   new-rows j h = all-get Sector xs j [] ok h
 
-  pub payload-put : splice (driveImage table d) (payloadStart (d .input .stripes) (keyBytesOf table (d .input)) * 512 + u * 512) (concat xs)
+  pub payload-put : splice (driveImage table d) (payloadStart (d .input .stripes) (keyBytesOf table (d .input)) * 512 + u * 512) (flatten xs)
       ≡ driveImage table (setBytes d (splice (d .sectors) u xs))
   unfolding driveImage imageParts setBytes
   payload-put =
-      let p = rowOf table (d .input) in
-      let e = payload-is (d .input .stripes) (p .keyBytes) in
-      let m : payloadStart (d .input .stripes) (p .keyBytes) * 512 + u * 512 ≡ offset (widths table d g) 4 + u * 512 = omega arith in
+      let L = keyBytesOf table (d .input) in
+      let e = payload-is (d .input .stripes) L in
+      let m : payloadStart (d .input .stripes) L * 512 + u * 512 ≡ offset (widths table d g) 4 + u * 512 = omega arith in
       let l = length-uniform xs 512 new-rows in
-      let q : u * 512 + length (concat xs) ≤ length (d .sectors) * 512 = omega arith in
-      ap (λ x. splice (driveImage table d) x (concat xs)) m
-      ∙ put (imageParts p d) (widths table d g) (part-widths table d g) 4 (u * 512) (concat xs) (omega arith) q
-      ∙ ap (λ x. concat (concat (headFields p (d .input)) ∷ concat (records table d g) ∷ zeros 3504 ∷ concat (rooms table d g) ∷ x ∷ []))
+      let q : u * 512 + length (flatten xs) ≤ length (d .sectors) * 512 = omega arith in
+      ap (λ x. splice (driveImage table d) x (flatten xs)) m
+      ∙ put (imageParts table d) (widths table d g) (part-widths table d g) 4 (u * 512) (flatten xs) (omega arith) q
+      ∙ ap (λ x. flatten (flatten (headOf table (d .input)) ∷ flatten (records table d g) ∷ zeros gapBytes ∷ flatten (rooms table d g) ∷ x ∷ []))
       (rows-splice (d .sectors) xs 512 u (sector-rows table d g (length (d .sectors)) (omega arith)) new-rows room)

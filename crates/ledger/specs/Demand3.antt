@@ -1,17 +1,18 @@
 -- Demand 3 (01, "The ledger"), as a statement about a table, an accepted format and a list of calls.
 use mathlib.Core.Path.{_≡_}
-use mathlib.Core.List.{List, [], _∷_, _++_}
+use mathlib.Core.List.{List, [], _∷_}
 use mathlib.Core.Bool.{Bool, true, false, _&&_, _||_}
 use Prim.Native.Nat.{ℕ, _-_, _^_, _≤_, _<_}
 use lib.Dec.{eqb}
 use lib.ListN.{length, getD}
-use Rattle.octets.specs.Octets.{Bytes, zeros}
-use Rattle.rules.specs.Profiles.{Profile, profileAt}
-use Rattle.rules.specs.Facts.{SlotInput, enabled}
+use Rattle.octets.specs.Octets.{Bytes, padded}
+use Rattle.rules.specs.Profiles.{Table}
+use Rattle.rules.specs.Facts.{SlotInput}
 use Rattle.rules.specs.Calls.{Call, add, change, revoke, openSlot, openAny, read, write, Answer}
 use Rattle.rules.specs.Step.{step, run}
 use Rattle.rules.specs.Format.{FormatInput, format}
-use Rattle.ledger.specs.Ledger.{Ledger, SlotEntry, empty, live, SectorEntry, atFormat, lastWriting, stateOf, ledgerImage, enterAll, startLedger}
+use Rattle.ledger.specs.Drive.{keyBytesOf}
+use Rattle.ledger.specs.Ledger.{Ledger, SlotEntry, empty, live, SectorEntry, atFormat, lastWriting, ledgerImage, enterAll, startLedger}
 
 -- ---- arguments as Rattle's types have them: "Salts are 32 bytes, counts 32 bits"; what is not said here is not needed
 
@@ -43,10 +44,11 @@ AllTyped (c ∷ cs) = Typed c × AllTyped cs
 
 -- ---- the end of a list
 
--- beyond the entries
+-- beyond the slots' entries
 abbrev pub noEntry : SlotEntry
 noEntry = empty []
 
+-- beyond the sectors' entries
 abbrev pub noSector : SectorEntry
 noSector = atFormat []
 
@@ -58,6 +60,7 @@ entryOf l k = getD (l .slotEntries) (k - 1) noEntry
 abbrev pub sectorEntryOf : Ledger → ℕ → SectorEntry
 sectorEntryOf l u = getD (l .sectorEntries) u noSector
 
+-- the call is an add
 unfoldable pub isAdd : Call → Bool
 isAdd (add k key x) = true
 isAdd (change k passphrase to x filler) = false
@@ -73,28 +76,37 @@ addAccepted [] rs = false
 addAccepted (c ∷ cs) [] = false
 addAccepted (c ∷ cs) (r ∷ rs) = (isAdd c && eqb (r .code) 0) || addAccepted cs rs
 
--- some slot is live
-abbrev pub SomeLive : Ledger → Type 0
-SomeLive l = (k : ℕ) × (1 ≤ k) × (k ≤ 8) × (stateOf (entryOf l k) ≡ enabled)
+-- some slot is live: its number, its key and what it was added with, as live-opens below takes them
+pub record SomeLive (l : Ledger) : Type 0 where
+  pub slot : ℕ
+  pub least : 1 ≤ slot
+  pub most : slot ≤ 8
+  pub key : List ℕ
+  pub input : SlotInput
+  pub entry-is : entryOf l slot ≡ live key input
 
 -- format on an image, then the list of calls on the image that format left
-module _ (table : List Profile) (a : FormatInput) (image : List ℕ) (cs : List Call) where
+module _ (table : Table) (a : FormatInput) (image : List ℕ) (cs : List Call) where
+  -- what the calls answer
   abbrev pub answersGiven : List Answer
   answersGiven = (run table (format table a image .image) cs) .answers
 
+  -- the image that they leave
   abbrev pub lastImage : List ℕ
   lastImage = (run table (format table a image .image) cs) .image
 
-  -- the ledger fed the same
+  -- what the ledger, fed the same, answers
   abbrev pub ledgerAnswers : List Answer
   ledgerAnswers = (enterAll table (startLedger table a image) cs) .answers
 
+  -- and what it holds at the end
   abbrev pub lastLedger : Ledger
   lastLedger = (enterAll table (startLedger table a image) cs) .ledger
 
 -- ---- the statement
 
-pub record Demand3 (table : List Profile) (a : FormatInput) (image : List ℕ) (cs : List Call) : Type 0 where
+-- what holds after every list of calls that follows an accepted format
+pub record Demand3 (table : Table) (a : FormatInput) (image : List ℕ) (cs : List Call) : Type 0 where
   -- the whole image after the list is the ledger's, byte for byte
   pub image-is : lastImage table a image cs ≡ ledgerImage table (lastLedger table a image cs)
   -- every call gave the ledger's answer
@@ -102,10 +114,10 @@ pub record Demand3 (table : List Profile) (a : FormatInput) (image : List ℕ) (
   -- each live slot opens by its number and passphrase with the key it was added with
   pub live-opens : (k : ℕ) → 1 ≤ k → k ≤ 8 → (key : List ℕ) (x : SlotInput) → entryOf (lastLedger table a image cs) k ≡ live key x
       → step table (lastImage table a image cs) (openSlot k (x .passphrase)) .said
-      ≡ record { code = 0; slot = k; keyLength = (profileAt table (a .profile)) .keyBytes; key = key ++ zeros (64 - length key); bytes = [] }
+      ≡ record { code = 0; slot = k; keyLength = keyBytesOf table a; key = padded 64 key; bytes = [] }
   -- each written sector reads back under the key of its last writing as it was written
-  pub written-reads : (u : ℕ) → u < length ((lastLedger table a image cs) .sectorEntries) → (key plain : List ℕ)
-      → sectorEntryOf (lastLedger table a image cs) u ≡ lastWriting key plain → (buffer : List ℕ) → length buffer ≡ 512
+  pub written-reads : (u : ℕ) (key plain : List ℕ) → sectorEntryOf (lastLedger table a image cs) u ≡ lastWriting key plain
+      → (buffer : List ℕ) → length buffer ≡ 512
       → step table (lastImage table a image cs) (read key u 1 buffer) .said ≡ record { code = 0; slot = 0; keyLength = 0; key = []; bytes = plain }
   -- two lists that end in one ledger end in one image, also after two different formats
   pub one-image : (a′ : FormatInput) → FormatTyped a′ → (image′ : List ℕ) → format table a′ image′ .code ≡ 0 → (cs′ : List Call) → AllTyped cs′

@@ -1,13 +1,14 @@
 -- A drive as format lays it out: format's arguments, what the eight slots hold, the payload's sectors; its image (01, "Header and layout") and its facts.
-use mathlib.Core.List.{List, [], _∷_, _++_}
+use mathlib.Core.List.{List, [], _∷_, _++_, flatten}
 use mathlib.Core.Bool.{cond}
 use Prim.Native.Nat.{ℕ, suc, _-_, _*_}
 use lib.Dec.{ltb}
 use Rattle.octets.specs.Octets.{zeros}
-use Rattle.rules.specs.Profiles.{Profile, profileAt}
+use Rattle.suite.specs.Suite.{Suite}
+use Rattle.rules.specs.Profiles.{Profile, Table, profileAt}
 use Rattle.rules.specs.Layout.{areaStart, payloadStart}
-use Rattle.rules.specs.Facts.{Facts, SlotFacts, sumOf}
-use Rattle.rules.specs.Format.{FormatInput, concat, headFields, slotRecord}
+use Rattle.rules.specs.Facts.{Facts, SlotFacts, checksumOf}
+use Rattle.rules.specs.Format.{FormatInput, headFields, slotRecord}
 
 -- what a slot's record and its area hold; the record's start and stripes are format's
 pub record SlotContent : Type 0 where
@@ -16,6 +17,7 @@ pub record SlotContent : Type 0 where
   pub salt : List ℕ
   pub area : List ℕ  -- its n × L bytes
 
+-- a drive: format's arguments and what its calls have put there
 pub record Drive : Type 0 where
   pub input : FormatInput
   pub contents : List SlotContent  -- of slots 1 to 8
@@ -26,6 +28,20 @@ module _ {ℓ κ} {A : Type ℓ} {B : Type κ} where
   unfoldable pub mapFrom : (ℕ → A → B) → ℕ → List A → List B
   mapFrom f i [] = []
   mapFrom f i (x ∷ xs) = f i x ∷ mapFrom f (suc i) xs
+
+-- ---- the profile that format was given
+
+-- the row of the table
+abbrev pub rowOf : Table → FormatInput → Profile
+rowOf table a = profileAt (table .rows) (a .profile)
+
+-- L
+abbrev pub keyBytesOf : Table → FormatInput → ℕ
+keyBytesOf table a = (rowOf table a) .keyBytes
+
+-- the suite
+abbrev pub suiteFor : Table → FormatInput → Suite
+suiteFor table a = table .suiteOf (a .profile)
 
 -- ---- the image
 
@@ -41,19 +57,25 @@ recordOf n L k c = slotRecord n L (c .state) (c .count) (c .salt) k
 unfoldable pub roomOf : ℕ → ℕ → ℕ → SlotContent → List ℕ
 roomOf n L k c = c .area ++ zeros (areaRoom n L k - n * L)
 
--- the header's fields, the eight records, zeros from byte 592 to the first area (sector 8), the areas, the payload
-unfoldable pub imageParts : Profile → Drive → List (List ℕ)
-imageParts p d =
-    let n = d .input .stripes in
-    concat (headFields p (d .input))
-    ∷ concat (mapFrom (recordOf n (p .keyBytes)) 0 (d .contents))
-    ∷ zeros 3504
-    ∷ concat (mapFrom (roomOf n (p .keyBytes)) 0 (d .contents))
-    ∷ concat (d .sectors)
+-- the bytes from the header's end, 592, to the first area, which stands at sector 8
+abbrev pub gapBytes : ℕ
+gapBytes = 8 * 512 - 592
+
+-- the header's fields, the eight records, zeros to the first area, the areas, the payload
+unfoldable pub imageParts : Table → Drive → List (List ℕ)
+imageParts table d =
+    let a = d .input in
+    let L = keyBytesOf table a in
+    flatten (headFields (suiteFor table a) (rowOf table a) a)
+    ∷ flatten (mapFrom (recordOf (a .stripes) L) 0 (d .contents))
+    ∷ zeros gapBytes
+    ∷ flatten (mapFrom (roomOf (a .stripes) L) 0 (d .contents))
+    ∷ flatten (d .sectors)
     ∷ []
 
-unfoldable pub driveImage : List Profile → Drive → List ℕ
-driveImage table d = concat (imageParts (profileAt table (d .input .profile)) d)
+-- the drive's image
+unfoldable pub driveImage : Table → Drive → List ℕ
+driveImage table d = flatten (imageParts table d)
 
 -- ---- the facts
 
@@ -63,16 +85,17 @@ contentFacts n L k c =
     record { state = c .state; count = c .count; salt = c .salt; start = areaStart n L k; stripes = n; area = c .area }
 
 -- what the rules read of the drive
-unfoldable pub driveFacts : List Profile → Drive → Facts
+unfoldable pub driveFacts : Table → Drive → Facts
 driveFacts table d =
-    let p = profileAt table (d .input .profile) in
-    let n = d .input .stripes in
+    let a = d .input in
+    let L = keyBytesOf table a in
     record {
-      profile = p;
-      payloadAt = payloadStart n (p .keyBytes);
-      checksum = sumOf (p .suite) (d .input .salt) (d .input .count) (d .input .key);
-      sumSalt = d .input .salt;
-      sumCount = d .input .count;
-      slotFacts = mapFrom (contentFacts n (p .keyBytes)) 0 (d .contents);
-      payload = concat (d .sectors);
+      profile = rowOf table a;
+      suite = suiteFor table a;
+      payloadAt = payloadStart (a .stripes) L;
+      checksum = checksumOf (suiteFor table a) (a .salt) (a .count) (a .key);
+      checksumSalt = a .salt;
+      checksumCount = a .count;
+      slotFacts = mapFrom (contentFacts (a .stripes) L) 0 (d .contents);
+      payload = flatten (d .sectors);
     }

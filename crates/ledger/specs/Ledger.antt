@@ -6,13 +6,14 @@ use lib.Dec.{eqb}
 use lib.ListN.{length, take, drop, set, replicate}
 use Rattle.octets.specs.Octets.{zeros}
 use Rattle.octets.specs.Splice.{splice}
+use Rattle.suite.specs.Suite.{Suite}
 use Rattle.rules.specs.Checks.{first}
-use Rattle.rules.specs.Profiles.{Profile, profileAt}
+use Rattle.rules.specs.Profiles.{Table}
 use Rattle.rules.specs.Layout.{payloadStart}
 use Rattle.rules.specs.Facts.{Facts, SlotInput, enabled, disabled, keyMaterial, candidate}
 use Rattle.rules.specs.Calls.{Call, add, change, revoke, openSlot, openAny, read, write, checks, Answer, answer, refused}
 use Rattle.rules.specs.Format.{FormatInput}
-use Rattle.ledger.specs.Drive.{SlotContent, Drive, mapFrom, driveImage, driveFacts}
+use Rattle.ledger.specs.Drive.{SlotContent, Drive, mapFrom, keyBytesOf, suiteFor, driveImage, driveFacts}
 
 -- "for each slot empty (zeros or the last filler), or live with key, passphrase, salt, count and random stripes"
 pub data SlotEntry : Type 0 where
@@ -48,29 +49,32 @@ saltOf (empty area) = zeros 32
 saltOf (live key x) = x .salt
 
 -- "Add splits the key, enciphers n × L bytes under PBKDF2 of the passphrase"
-unfoldable pub areaOf : Profile → ℕ → SlotEntry → List ℕ
-areaOf p n (empty area) = area
-areaOf p n (live key x) = keyMaterial (p .suite) (p .keyBytes) n key x
+unfoldable pub areaOf : Suite → ℕ → ℕ → SlotEntry → List ℕ
+areaOf S L n (empty area) = area
+areaOf S L n (live key x) = keyMaterial S L n key x
 
 -- the bytes of unit u of the payload: "Units count ... from 0 at the payload"
-unfoldable pub sectorOf : Profile → ℕ → SectorEntry → List ℕ
-sectorOf p u (atFormat bytes) = bytes
-sectorOf p u (lastWriting key plain) = p .suite .encipher key u plain
+unfoldable pub sectorOf : Suite → ℕ → SectorEntry → List ℕ
+sectorOf S u (atFormat bytes) = bytes
+sectorOf S u (lastWriting key plain) = S .encipher key u plain
 
-unfoldable pub contentOf : Profile → ℕ → SlotEntry → SlotContent
-contentOf p n s = record { state = stateOf s; count = countOf s; salt = saltOf s; area = areaOf p n s }
+-- what the entry puts into the slot's record and its area
+unfoldable pub contentOf : Suite → ℕ → ℕ → SlotEntry → SlotContent
+contentOf S L n s = record { state = stateOf s; count = countOf s; salt = saltOf s; area = areaOf S L n s }
 
-unfoldable pub ledgerDrive : List Profile → Ledger → Drive
+-- the ledger's drive
+unfoldable pub ledgerDrive : Table → Ledger → Drive
 ledgerDrive table l =
-    let p = profileAt table (l .input .profile) in
-    record { input = l .input; contents = map (contentOf p (l .input .stripes)) (l .slotEntries); sectors = mapFrom (sectorOf p) 0 (l .sectorEntries) }
+    let a = l .input in
+    let S = suiteFor table a in
+    record { input = a; contents = map (contentOf S (keyBytesOf table a) (a .stripes)) (l .slotEntries); sectors = mapFrom (sectorOf S) 0 (l .sectorEntries) }
 
 -- 01's "ledger's image"
-unfoldable pub ledgerImage : List Profile → Ledger → List ℕ
+unfoldable pub ledgerImage : Table → Ledger → List ℕ
 ledgerImage table l = driveImage table (ledgerDrive table l)
 
 -- what the rules read of the ledger
-unfoldable pub ledgerFacts : List Profile → Ledger → Facts
+unfoldable pub ledgerFacts : Table → Ledger → Facts
 ledgerFacts table l = driveFacts table (ledgerDrive table l)
 
 -- ---- what an accepted call does to the ledger
@@ -79,6 +83,7 @@ ledgerFacts table l = driveFacts table (ledgerDrive table l)
 unfoldable pub setSlot : Ledger → ℕ → SlotEntry → Ledger
 setSlot l k s = record { input = l .input; slotEntries = set (l .slotEntries) (k - 1) s; sectorEntries = l .sectorEntries }
 
+-- the payload's sectors
 unfoldable pub setSectors : Ledger → List SectorEntry → Ledger
 setSectors l s = record { input = l .input; slotEntries = l .slotEntries; sectorEntries = s }
 
@@ -111,7 +116,7 @@ settleEntry f c l r false = record { said = refused r c; ledger = l }
 
 -- "Acceptance and answers are judged by the rules of this paper over the ledger as it stands before the call";
 -- a ledger has no header to check
-unfoldable pub enter : List Profile → Ledger → Call → Entered
+unfoldable pub enter : Table → Ledger → Call → Entered
 enter table l c =
     let f = ledgerFacts table l in
     let r = first (checks f c) in
@@ -122,7 +127,8 @@ pub record EnteredAll : Type 0 where
   pub answers : List Answer
   pub ledger : Ledger
 
-unfoldable pub enterAll : List Profile → Ledger → List Call → EnteredAll
+-- the calls, one after the other
+unfoldable pub enterAll : Table → Ledger → List Call → EnteredAll
 enterAll table l [] = record { answers = []; ledger = l }
 enterAll table l (c ∷ cs) =
     let a = enter table l c in
@@ -137,12 +143,12 @@ sectorsIn zero x = []
 sectorsIn (suc m) x = atFormat (take 512 x) ∷ sectorsIn m (drop 512 x)
 
 -- the ledger of an accepted format: eight empty slots, zeros in their areas, and the payload as it was
-unfoldable pub startLedger : List Profile → FormatInput → List ℕ → Ledger
+unfoldable pub startLedger : Table → FormatInput → List ℕ → Ledger
 startLedger table a image =
-    let p = profileAt table (a .profile) in
-    let start = payloadStart (a .stripes) (p .keyBytes) in
+    let L = keyBytesOf table a in
+    let start = payloadStart (a .stripes) L in
     record {
       input = a;
-      slotEntries = replicate 8 (empty (zeros (a .stripes * p .keyBytes)));
+      slotEntries = replicate 8 (empty (zeros (a .stripes * L)));
       sectorEntries = sectorsIn (length image / 512 - start) (drop (start * 512) image);
     }

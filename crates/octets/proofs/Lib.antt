@@ -5,3 +5,4 @@ pub mod SpliceLaws
 pub mod InPlaceLaws
 pub mod PiecesLaws
 pub mod TableLaws
+pub mod PartsLaws

@@ -11,7 +11,7 @@ use lib.ListN.{length, take, drop, getD, replicate, length-append, length-take, 
 use lib.Seq.{length-take-le, drop-cons}
 use lib.Dec.{eqb}
 use borrow.Author.Tests.{eqb-true, eq-eqb, ne-eqb}
-use Rattle.octets.specs.Octets.{Bytes, Str, zeros, bigEndian, quad, quadAt, _⊕_, xors, same}
+use Rattle.octets.specs.Octets.{Bytes, Str, zeros, padded, bigEndian, be32Of, be32At, _⊕_, xors, same, be32}
 use Rattle.octets.proofs.BoolLaws.{and-split, and-false}
 use Rattle.octets.proofs.XorLaws.{⊕-byte, ⊕-undo, ⊕-assoc, ⊕-self, zero-⊕, ⊕-div, ⊕-mod}
 
@@ -94,12 +94,15 @@ pub length-bigEndian : (n x : ℕ) → length (bigEndian n x) ≡ n
 length-bigEndian n x = str-bigEndian n x .len
 
 -- four bytes of a number read back
-pub quad-bytes : (x : ℕ) → x < 2 ^ 32 → quad (x / 256 / 256 / 256 % 256) (x / 256 / 256 % 256) (x / 256 % 256) (x % 256) ≡ x
-quad-bytes x h = omega arith
+pub be32-bytes : (x : ℕ) → x < 2 ^ 32 → be32Of (x / 256 / 256 / 256 % 256) (x / 256 / 256 % 256) (x / 256 % 256) (x % 256) ≡ x
+be32-bytes x h = omega arith
 
-pub quadAt-bigEndian : (x : ℕ) → x < 2 ^ 32 → quadAt (bigEndian 4 x) 0 ≡ x
-unfolding bigEndian quadAt
-quadAt-bigEndian x h = quad-bytes x h
+pub be32At-be32 : (x : ℕ) → x < 2 ^ 32 → be32At (be32 x) 0 ≡ x
+unfolding bigEndian be32At
+be32At-be32 x h = be32-bytes x h
+
+pub length-padded : (w : ℕ) (x : List ℕ) → length x ≤ w → length (padded w x) ≡ w
+length-padded w x h = omega (arith, length-append x (zeros (w - length x)), length-zeros (w - length x))
 
 -- ---- exclusive or
 

@@ -1,4 +1,4 @@
--- Laws of slices and splices: lengths, prefixes, a slice of a splice, two splices.
+-- Laws of parts and splices: lengths, prefixes, a part of a splice, two splices.
 use mathlib.Core.Path.{_≡_, refl, sym, ap, _∙_}
 use mathlib.Core.List.{List, [], _∷_, _++_, append-assoc, append-nil}
 use Prim.Native.Nat.{ℕ, zero, suc, _+_, _-_, _≤_, _<_}
@@ -6,31 +6,31 @@ use native.Mathlib.Nat.{zero-add}
 use native.Mathlib.Omega.{arith}
 use lib.ListN.{getD, length, take, drop, length-append, length-take, length-drop, take-append-drop}
 use lib.Seq.{getD-take, getD-drop, take-append-le, drop-append-le, take-at, drop-at, drop-drop, length-take-le, take-take, take-all, drop-length, take-append-add, drop-append-add, paste, take-length}
-use Rattle.octets.specs.Octets.{quadAt}
-use Rattle.octets.specs.Splice.{slice, splice}
+use Rattle.octets.specs.Octets.{be32At}
+use Rattle.octets.specs.Splice.{part, splice}
 
 module _ {ℓ} {A : Type ℓ} where
-  pub length-slice : (l : List A) (o n : ℕ) → o + n ≤ length l → length (slice l o n) ≡ n
-  unfolding slice
-  length-slice l o n h = simp (length-take, length-drop) (omega arith)
+  pub length-part : (l : List A) (o n : ℕ) → o + n ≤ length l → length (part l o n) ≡ n
+  unfolding part
+  length-part l o n h = simp (length-take, length-drop) (omega arith)
 
   pub length-splice : (l : List A) (o : ℕ) (b : List A) → o + length b ≤ length l → length (splice l o b) ≡ length l
   unfolding splice
   length-splice l o b h = simp (length-append, length-take, length-drop) (omega arith)
 
   -- where a prefix is known: both go on behind it
-  pub slice-skip : (a b : List A) (m o n : ℕ) → length a ≡ m → slice (a ++ b) (m + o) n ≡ slice b o n
-  unfolding slice
-  slice-skip a b m o n e = rw (← e) (ap (take n) (drop-append-add a b o))
+  pub part-skip : (a b : List A) (m o n : ℕ) → length a ≡ m → part (a ++ b) (m + o) n ≡ part b o n
+  unfolding part
+  part-skip a b m o n e = rw (← e) (ap (take n) (drop-append-add a b o))
 
-  pub slice-here : (a b : List A) (o n : ℕ) → o + n ≤ length a → slice (a ++ b) o n ≡ slice a o n
-  unfolding slice
-  slice-here a b o n h =
+  pub part-here : (a b : List A) (o n : ℕ) → o + n ≤ length a → part (a ++ b) o n ≡ part a o n
+  unfolding part
+  part-here a b o n h =
       ap (take n) (drop-append-le o a b (omega arith)) ∙ take-append-le n (drop o a) b (simp length-drop (omega arith))
 
-  pub slice-all : (a : List A) (n : ℕ) → length a ≡ n → slice a 0 n ≡ a
-  unfolding slice
-  slice-all a n e = take-all n a (omega arith)
+  pub part-all : (a : List A) (n : ℕ) → length a ≡ n → part a 0 n ≡ a
+  unfolding part
+  part-all a n e = take-all n a (omega arith)
 
   pub splice-skip : (a b c : List A) (m o : ℕ) → length a ≡ m → splice (a ++ b) (m + o) c ≡ a ++ splice b o c
   unfolding splice
@@ -65,23 +65,23 @@ module _ {ℓ} {A : Type ℓ} where
       let m : a + (e - a) ≡ a + length y = omega arith in
       ap (λ (z : List A). take a l ++ (y ++ z)) (drop-drop (e - a) a l ∙ ap (λ (k : ℕ). drop k l) m)
 
-  -- ---- a slice of a splice
+  -- ---- a part of a splice
 
-  pub slice-splice-same : (l : List A) (o : ℕ) (b : List A) → o + length b ≤ length l → slice (splice l o b) o (length b) ≡ b
-  unfolding splice slice
-  slice-splice-same l o b h =
+  pub part-splice-same : (l : List A) (o : ℕ) (b : List A) → o + length b ≤ length l → part (splice l o b) o (length b) ≡ b
+  unfolding splice part
+  part-splice-same l o b h =
       rw (drop-at (take o l) (b ++ drop (o + length b) l) o (length-take-le o l (omega arith))) (take-at b _ (length b) refl)
 
-  pub slice-splice-before : (l : List A) (o : ℕ) (b : List A) (i n : ℕ) → i + n ≤ o → o ≤ length l → slice (splice l o b) i n ≡ slice l i n
+  pub part-splice-before : (l : List A) (o : ℕ) (b : List A) (i n : ℕ) → i + n ≤ o → o ≤ length l → part (splice l o b) i n ≡ part l i n
   unfolding splice
-  slice-splice-before l o b i n h k =
+  part-splice-before l o b i n h k =
       let q : i + n ≤ length (take o l) = simp length-take (omega arith) in
-      slice-here (take o l) (b ++ drop (o + length b) l) i n q
-      ∙ sym (slice-here (take o l) (drop o l) i n q) ∙ ap (λ x. slice x i n) (take-append-drop o l)
+      part-here (take o l) (b ++ drop (o + length b) l) i n q
+      ∙ sym (part-here (take o l) (drop o l) i n q) ∙ ap (λ x. part x i n) (take-append-drop o l)
 
-  pub slice-splice-after : (l : List A) (o : ℕ) (b : List A) (i n : ℕ) → o + length b ≤ i → o + length b ≤ length l → slice (splice l o b) i n ≡ slice l i n
-  unfolding splice slice
-  slice-splice-after l o b i n h k =
+  pub part-splice-after : (l : List A) (o : ℕ) (b : List A) (i n : ℕ) → o + length b ≤ i → o + length b ≤ length l → part (splice l o b) i n ≡ part l i n
+  unfolding splice part
+  part-splice-after l o b i n h k =
       let m : ℕ = o + length b in
       let e : i ≡ m + (i - m) = omega arith in
       let f : length (take o l ++ b) ≡ o + length b = simp (length-append, length-take) (omega arith) in
@@ -101,6 +101,7 @@ module _ {ℓ} {A : Type ℓ} where
       (rw (e, ← append-assoc (take o l) b (drop (o + length b) l))
       (rw (drop-at (take o l ++ b) (drop (o + length b) l) (o + length b) g)))
 
+  -- for wish 11: two splices that share no element, in either order
   pub splice-comm : (l : List A) (o : ℕ) (b : List A) (p : ℕ) (c : List A) → o + length b ≤ p → p + length c ≤ length l
       → splice (splice l o b) p c ≡ splice (splice l p c) o b
   splice-comm l o b p c h k =
@@ -140,7 +141,7 @@ module _ {ℓ} {A : Type ℓ} where
   unfolding splice
   splice-paste l o b n e = rw (e, take-length b, append-assoc)
 
-  -- ---- a slice of a slice
+  -- ---- a part of a part
 
   cut : (o n w : ℕ) (l : List A) → o + n ≤ w → take n (drop o (take w l)) ≡ take n (drop o l)
   cut zero n w l h = take-take n w l (omega arith)
@@ -148,14 +149,14 @@ module _ {ℓ} {A : Type ℓ} where
   cut (suc o) n (suc w) [] h = refl
   cut (suc o) n (suc w) (x ∷ l) h = cut o n w l (omega arith)
 
-  pub slice-slice : (l : List A) (a w o n : ℕ) → o + n ≤ w → slice (slice l a w) o n ≡ slice l (a + o) n
-  unfolding slice
-  slice-slice l a w o n h = cut o n w (drop a l) h ∙ ap (take n) (drop-drop o a l)
+  pub part-part : (l : List A) (a w o n : ℕ) → o + n ≤ w → part (part l a w) o n ≡ part l (a + o) n
+  unfolding part
+  part-part l a w o n h = cut o n w (drop a l) h ∙ ap (take n) (drop-drop o a l)
 
--- a number of four bytes inside a slice
-pub quadAt-slice : (s : List ℕ) (a w o : ℕ) → o + 4 ≤ w → quadAt (slice s a w) o ≡ quadAt s (a + o)
-unfolding slice quadAt
-quadAt-slice s a w o h =
+-- a number of four bytes inside a part
+pub be32At-part : (s : List ℕ) (a w o : ℕ) → o + 4 ≤ w → be32At (part s a w) o ≡ be32At s (a + o)
+unfolding part be32At
+be32At-part s a w o h =
     let g : (i : ℕ) → i < w → getD (take w (drop a s)) i 0 ≡ getD s (a + i) 0 = λ i l. getD-take w (drop a s) i 0 l ∙ getD-drop a s i 0 in
     let e : (k : ℕ) → a + (o + k) ≡ a + o + k = λ k. omega arith in
     rw (g o (omega arith), g (o + 1) (omega arith), g (o + 2) (omega arith), g (o + 3) (omega arith), e 1, e 2, e 3)

@@ -90,7 +90,3 @@ unfolding _⊕_
 pub ⊕-mod : (a b k : ℕ) → (a ⊕ b) % 2 ^ k ≡ (a % 2 ^ k) ⊕ (b % 2 ^ k)
 unfolding _⊕_
 ⊕-mod a b k = xor-mod a b k
-
--- four sums of two, and the two sums of four
-pub ⊕-four : (a b c d e f g h : ℕ) → (a ⊕ e) ⊕ (b ⊕ f) ⊕ (c ⊕ g) ⊕ (d ⊕ h) ≡ (a ⊕ b ⊕ c ⊕ d) ⊕ (e ⊕ f ⊕ g ⊕ h)
-⊕-four a b c d e f g h = simp (⊕-assoc, ⊕-left)

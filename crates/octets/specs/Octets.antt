@@ -2,7 +2,7 @@
 use mathlib.Core.Path.{_≡_}
 use mathlib.Core.List.{List, [], _∷_, _++_}
 use mathlib.Core.Bool.{Bool, true, false, _&&_}
-use Prim.Native.Nat.{ℕ, zero, suc, _+_, _*_, _/_, _%_, _<_}
+use Prim.Native.Nat.{ℕ, zero, suc, _+_, _-_, _*_, _/_, _%_, _<_}
 use lib.Bits.{bitXor}
 use lib.Dec.{eqb}
 use lib.ListN.{length, getD, replicate}
@@ -21,6 +21,10 @@ pub record Str (n : ℕ) (x : List ℕ) : Type 0 where
 unfoldable pub zeros : ℕ → List ℕ
 zeros n = replicate n 0
 
+-- x followed by zeros, to w bytes
+abbrev pub padded : ℕ → List ℕ → List ℕ
+padded w x = x ++ zeros (w - length x)
+
 -- ---- numbers in bytes (01, "Header and layout": "Numbers are big-endian")
 
 -- x as n bytes, the highest first
@@ -28,13 +32,17 @@ unfoldable pub bigEndian : ℕ → ℕ → List ℕ
 bigEndian zero x = []
 bigEndian (suc n) x = bigEndian n (x / 256) ++ (x % 256 ∷ [])
 
+-- x as four bytes, the highest first
+abbrev pub be32 : ℕ → List ℕ
+be32 x = bigEndian 4 x
+
 -- the number of four bytes, the highest first
-abbrev pub quad : ℕ → ℕ → ℕ → ℕ → ℕ
-quad a b c d = a * 16777216 + b * 65536 + c * 256 + d
+abbrev pub be32Of : ℕ → ℕ → ℕ → ℕ → ℕ
+be32Of a b c d = a * 16777216 + b * 65536 + c * 256 + d
 
 -- the number of the four bytes of s from offset o
-unfoldable pub quadAt : List ℕ → ℕ → ℕ
-quadAt s o = quad (getD s o 0) (getD s (o + 1) 0) (getD s (o + 2) 0) (getD s (o + 3) 0)
+unfoldable pub be32At : List ℕ → ℕ → ℕ
+be32At s o = be32Of (getD s o 0) (getD s (o + 1) 0) (getD s (o + 2) 0) (getD s (o + 3) 0)
 
 -- ---- exclusive or
 

@@ -5,8 +5,8 @@ use lib.ListN.{length, take, drop}
 
 module _ {ℓ} {A : Type ℓ} where
   -- the n elements of l from index o
-  unfoldable pub slice : List A → ℕ → ℕ → List A
-  slice l o n = take n (drop o l)
+  unfoldable pub part : List A → ℕ → ℕ → List A
+  part l o n = take n (drop o l)
 
   -- l with its elements from index o replaced by b's
   unfoldable pub splice : List A → ℕ → List A → List A

@@ -1,9 +1,8 @@
 // Byte strings in place: copy, clear, exclusive or, comparison, and numbers in bytes.
 ghost use mathlib.Core.Path.{_≡_};
-ghost use mathlib.Core.List.{[], _∷_};
 ghost use Prim.Native.Nat.{_+_, _≤_, min};
 ghost use lib.ListN.{length};
-ghost use Rattle.octets.specs.Octets.{bigEndian, quad, quadAt, xors, zeros, same};
+ghost use Rattle.octets.specs.Octets.{bigEndian, be32Of, be32At, xors, zeros, same, be32};
 ghost use Rattle.octets.specs.Splice.{splice};
 
 // Copies b into d, from index at.
@@ -59,15 +58,15 @@ pub fn equal(a: &[u8], b: &[u8]) -> bool
 }
 
 // The smaller of two lengths.
-pub fn least(a: usize, b: usize) -> usize
+pub fn min(a: usize, b: usize) -> usize
     ensures { λ r. ⌜ r ≡ min a b ⌝ }
 {
     if a < b { a } else { b }
 }
 
 // The number of four bytes, the highest first.
-pub fn quad_of(a: u8, b: u8, c: u8, d: u8) -> u32
-    ensures { λ r. ⌜ r ≡ quad a b c d ⌝ }
+pub fn be32_of(a: u8, b: u8, c: u8, d: u8) -> u32
+    ensures { λ r. ⌜ r ≡ be32Of a b c d ⌝ }
 {
     a as u32 * 16777216 + b as u32 * 65536 + c as u32 * 256 + d as u32
 }
@@ -75,14 +74,14 @@ pub fn quad_of(a: u8, b: u8, c: u8, d: u8) -> u32
 // The number of the four bytes of s from index at.
 pub fn be32_at(s: &[u8], at: usize) -> u32
     requires { ⌜ at + 4 ≤ length (now s) ⌝ }
-    ensures { λ r. ⌜ r ≡ quadAt (now (s .entry)) at ⌝ }
+    ensures { λ r. ⌜ r ≡ be32At (now (s .entry)) at ⌝ }
 {
-    quad_of(s[at], s[at + 1], s[at + 2], s[at + 3])
+    be32_of(s[at], s[at + 1], s[at + 2], s[at + 3])
 }
 
 // x as 4 bytes, the highest first.
 pub fn be32(x: u32) -> [u8; 4]
-    ensures { λ r. ⌜ r ≡ bigEndian 4 x ⌝ }
+    ensures { λ r. ⌜ r ≡ be32 x ⌝ }
 {
     [
         (x / 256 / 256 / 256 % 256) as u8,

@@ -1,20 +1,14 @@
 // Opening a drive, by a slot's number and without one.
 use header::Refusal;
 ghost use mathlib.Core.Path.{_≡_};
-ghost use mathlib.Core.List.{[], _∷_};
 ghost use mathlib.Core.Bool.{true};
-ghost use Prim.Native.Nat.{_+_, _≤_, _<_};
-ghost use lib.ListN.{length};
-ghost use Rattle.octets.specs.Octets.{quadAt};
 ghost use Rattle.rules.specs.Checks.{first};
-ghost use Rattle.rules.specs.Facts.{factsOf, slotOf, isEnabled, candidate};
-ghost use Rattle.rules.specs.Header.{headerChecks};
-ghost use Rattle.rules.specs.Calls.{openSlot, openAny, slotNumberOk, passphraseOk};
-ghost use Rattle.rules.specs.Step.{step};
-ghost use Rattle.built.specs.Built.{built};
+ghost use Rattle.rules.specs.Calls.{openSlot, openAny, passphraseOk, earlyChecks};
+ghost use Rattle.rules.specs.Contracts.{DoesOpen};
+ghost use Rattle.profiles.specs.Suites.{built};
 ghost use Rattle.header.specs.Refusals.{number};
-ghost use Rattle.header.specs.Layout.{slotIn};
-ghost use Rattle.opening.specs.Opening.{IsAnswer, IsTrial, IsFound, zeroed};
+ghost use Rattle.header.specs.Records.{factsIn, HeaderOk};
+ghost use Rattle.opening.specs.Opening.{IsFound, Zeroed};
 
 // What an opening returns. The key is followed by zeros; where the opening is refused, all is zero.
 pub struct Opened {
@@ -24,15 +18,9 @@ pub struct Opened {
     pub key: [u8; 64],
 }
 
-// Whether a slot opens, and then its key, followed by zeros.
-pub struct Trial {
-    pub opens: bool,
-    pub key: [u8; 64],
-}
-
-// The first slot that opens, counted from 0, or none.
+// The first slot that opens, counted from 1, or none.
 pub enum Found {
-    At(usize),
+    At(u8),
     Nothing,
 }
 
@@ -42,40 +30,9 @@ pub struct Search {
     pub key: [u8; 64],
 }
 
-// The candidate of slot k, from 0, in d.
-pub fn slot_candidate(d: &mut [u8], image: &[u8], k: usize, passphrase: &[u8])
-    requires { ⌜ (first (headerChecks built (now image)) ≡ 0) × (k < 8) × (isEnabled (slotIn (now image) k) ≡ true) × (length (now d) ≡ quadAt (now image) 108) × (length (now passphrase) ≤ 512) ⌝ }
-    ensures { λ _. ⌜ now (d .exit) ≡ candidate (factsOf built (now (image .entry))) (k + 1) (now (passphrase .entry)) ⌝ }
-{
-    let s = header::slots::slot_at(image, k);
-    let n = s.stripes as usize;
-    let at = s.start.0 as usize * 512;
-    let end = at + n * d.len();
-    let salt = s.salt;
-    keyslot::candidate(d, &image[at..end], n, passphrase, &salt, s.count);
-}
-
-// Tries slot k, from 0: a disabled slot costs nothing, an enabled one its derivation and one checksum.
-pub fn try_slot(image: &[u8], k: usize, passphrase: &[u8]) -> Trial
-    requires { ⌜ (first (headerChecks built (now image)) ≡ 0) × (k < 8) × (length (now passphrase) ≤ 512) ⌝ }
-    ensures { λ r. ⌜ IsTrial r (factsOf built (now (image .entry))) (k + 1) (now (passphrase .entry)) ⌝ }
-{
-    if !header::slots::is_enabled(header::slots::slot_at(image, k)) {
-        return Trial {
-            opens: false,
-            key: [0u8; 64],
-        };
-    }
-    let l = octets::be32_at(image, 108) as usize;
-    let mut key = [0u8; 64];
-    slot_candidate(&mut key[..l], image, k, passphrase);
-    let opens = checksum::key_matches(image, &key[..l]);
-    Trial { opens, key }
-}
-
 // A refused opening.
 fn refused(r: Refusal) -> Opened
-    ensures { λ o. ⌜ zeroed r o ⌝ }
+    ensures { λ o. ⌜ Zeroed r o ⌝ }
 {
     Opened {
         refusal: r,
@@ -85,19 +42,20 @@ fn refused(r: Refusal) -> Opened
     }
 }
 
-// The checks of an opening by number that cost no derivation, on a drive whose header is accepted.
+// The checks of an opening by number that derive nothing, on a drive whose header is accepted.
 fn open_slot_check(image: &[u8], slot: u8, passphrase: &[u8]) -> Refusal
-    requires { ⌜ first (headerChecks built (now image)) ≡ 0 ⌝ }
-    ensures { λ r. ⌜ number r ≡ first ((slotNumberOk slot, 13) ∷ (passphraseOk (now (passphrase .entry)), 14) ∷ (isEnabled (slotOf (factsOf built (now (image .entry))) slot), 15) ∷ []) ⌝ }
+    requires { ⌜ HeaderOk (now image) ⌝ }
+    ensures { λ r. ⌜ number r ≡ first (earlyChecks (factsIn (now (image .entry))) (openSlot slot (now (passphrase .entry)))) ⌝ }
 {
     if !header::arguments::slot_number_ok(slot) {
         return Refusal::BadSlot;
     }
-    if !header::arguments::passphrase_ok(passphrase) {
+    let fits = header::arguments::passphrase_ok(passphrase);
+    let enabled = header::arguments::slot_enabled(image, slot);
+    if !fits {
         return Refusal::BadPassphrase;
     }
-    let s = header::slots::slot_at(image, (slot - 1) as usize);
-    if !header::slots::is_enabled(s) {
+    if !enabled {
         return Refusal::WrongState;
     }
     Refusal::Accepted
@@ -106,7 +64,8 @@ fn open_slot_check(image: &[u8], slot: u8, passphrase: &[u8]) -> Refusal
 // Opens a slot by its number.
 // The contract rules out an opening that says 17 and tries nothing, and one that judges the slot by another's state.
 pub fn open_slot(image: &[u8], slot: u8, passphrase: &[u8]) -> Opened
-    ensures { λ o. ⌜ IsAnswer o (step built (now (image .entry)) (openSlot slot (now (passphrase .entry))) .said) ⌝ }
+    ensures { λ o. ⌜ DoesOpen built (now (image .entry)) (openSlot slot (now (passphrase .entry)))
+        (number (o .refusal)) (o .slot) (o .«key_length») (o .key) ⌝ }
 {
     let h = header::check::header_check(image);
     if header::number_of(h) != 0 {
@@ -116,7 +75,7 @@ pub fn open_slot(image: &[u8], slot: u8, passphrase: &[u8]) -> Opened
     if header::number_of(r) != 0 {
         return refused(r);
     }
-    let t = try_slot(image, (slot - 1) as usize, passphrase);
+    let t = slots::try_slot(image, slot, passphrase);
     if !t.opens {
         return refused(Refusal::WrongKey);
     }
@@ -124,28 +83,28 @@ pub fn open_slot(image: &[u8], slot: u8, passphrase: &[u8]) -> Opened
     Opened {
         refusal: r,
         slot,
-        key_length: octets::be32_at(image, 108) as u8,
+        key_length: header::facts::key_bytes(image) as u8,
         key,
     }
 }
 
 // Tries the slots in turn, and stops at the first that opens.
 fn find_slot(image: &[u8], passphrase: &[u8]) -> Search
-    requires { ⌜ (first (headerChecks built (now image)) ≡ 0) × (length (now passphrase) ≤ 512) ⌝ }
-    ensures { λ r. ⌜ IsFound r (factsOf built (now (image .entry))) (now (passphrase .entry)) ⌝ }
+    requires { ⌜ HeaderOk (now image) × (passphraseOk (now passphrase) ≡ true) ⌝ }
+    ensures { λ r. ⌜ IsFound r (factsIn (now (image .entry))) (now (passphrase .entry)) ⌝ }
 {
     let mut key = [0u8; 64];
-    let mut k: usize = 0;
+    let mut slot: u8 = 1;
     let found = loop {
-        if k == 8 {
+        if slot == 9 {
             break Found::Nothing;
         }
-        let t = try_slot(image, k, passphrase);
+        let t = slots::try_slot(image, slot, passphrase);
         key = t.key;
         if t.opens {
-            break Found::At(k);
+            break Found::At(slot);
         }
-        k += 1;
+        slot += 1;
     };
     Search { found, key }
 }
@@ -153,7 +112,8 @@ fn find_slot(image: &[u8], passphrase: &[u8]) -> Search
 // Opens the first slot that the passphrase opens.
 // The contract rules out a search that leaves slot 8 out, and one that answers with a fixed key.
 pub fn open(image: &[u8], passphrase: &[u8]) -> Opened
-    ensures { λ o. ⌜ IsAnswer o (step built (now (image .entry)) (openAny (now (passphrase .entry))) .said) ⌝ }
+    ensures { λ o. ⌜ DoesOpen built (now (image .entry)) (openAny (now (passphrase .entry)))
+        (number (o .refusal)) (o .slot) (o .«key_length») (o .key) ⌝ }
 {
     let h = header::check::header_check(image);
     if header::number_of(h) != 0 {
@@ -164,14 +124,14 @@ pub fn open(image: &[u8], passphrase: &[u8]) -> Opened
     }
     let s = find_slot(image, passphrase);
     let found = s.found;
-    let Found::At(k) = found else {
+    let Found::At(slot) = found else {
         return refused(Refusal::WrongKey);
     };
     let key = s.key;
     Opened {
         refusal: Refusal::Accepted,
-        slot: (k + 1) as u8,
-        key_length: octets::be32_at(image, 108) as u8,
+        slot,
+        key_length: header::facts::key_bytes(image) as u8,
         key,
     }
 }

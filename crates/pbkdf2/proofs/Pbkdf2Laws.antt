@@ -6,7 +6,7 @@ use native.Mathlib.Nat.{mul-suc, mul-add, mul-comm, lt-div-mul-add}
 use native.Mathlib.Omega.{arith}
 use lib.ListN.{length, take, length-take}
 use lib.Seq.{take-all, take-append-add, length-take-le}
-use Rattle.octets.specs.Octets.{Str, bigEndian, xors}
+use Rattle.octets.specs.Octets.{Str, be32, xors}
 use Rattle.octets.specs.Splice.{splice}
 use Rattle.octets.specs.Pieces.{pieceCount}
 use Rattle.octets.proofs.OctetsLaws.{str-cast, str-append, str-crop, str-xors}
@@ -64,7 +64,7 @@ blocks-more D T out out′ t j m n e lt lo h ee et eo i =
 module _ (H : Digest) (L : LawfulDigest H) (p s : List ℕ) (c : ℕ) where
   pub str-F : (i : ℕ) → Str (H .size) (F H p s c i)
   unfolding F
-  str-F i = str-folded (H .size) (hmac H p) (hmac H p (s ++ bigEndian 4 i)) (c - 1) (str-hmac H L p) (str-hmac H L p (s ++ bigEndian 4 i))
+  str-F i = str-folded (H .size) (hmac H p) (hmac H p (s ++ be32 i)) (c - 1) (str-hmac H L p) (str-hmac H L p (s ++ be32 i))
 
   pub str-Ts : (n : ℕ) → Str (H .size * n) (Ts H p s c n)
   unfolding Ts

@@ -3,7 +3,7 @@ use mathlib.Core.Path.{_≡_}
 use mathlib.Core.List.{List, [], _∷_, _++_}
 use Prim.Native.Nat.{ℕ, zero, suc, _+_, _-_, _*_}
 use lib.ListN.{length, getD, take}
-use Rattle.octets.specs.Octets.{bigEndian}
+use Rattle.octets.specs.Octets.{be32}
 use Rattle.sha1.specs.Sha1.{compressWords, finish, digest}
 use Rattle.lanes.specs.Lanes.{fourDigests}
 use Rattle.pbkdf2.specs.Pbkdf2.{folded}
@@ -20,7 +20,7 @@ prfWords i o u = compressWords o (lastBlock (compressWords i (lastBlock u)))
 
 -- U_1 of T_n
 unfoldable pub firstWords : List ℕ → List ℕ → List ℕ → ℕ → List ℕ
-firstWords i o s n = compressWords o (lastBlock (finish i 64 (s ++ bigEndian 4 n)))
+firstWords i o s n = compressWords o (lastBlock (finish i 64 (s ++ be32 n)))
 
 -- T_n, as five words
 unfoldable pub blockWords : List ℕ → List ℕ → List ℕ → ℕ → ℕ → List ℕ

@@ -4,7 +4,7 @@ ghost use mathlib.Core.Path.{_≡_};
 ghost use mathlib.Core.List.{_++_};
 ghost use Prim.Native.Nat.{_+_, _-_, _*_, _≤_, _<_, _^_};
 ghost use lib.ListN.{length, take};
-ghost use Rattle.octets.specs.Octets.{bigEndian, xors};
+ghost use Rattle.octets.specs.Octets.{be32, xors};
 ghost use Rattle.octets.specs.Pieces.{pieceCount};
 ghost use Rattle.sha1.specs.Sha1.{finish, digest, sha1};
 ghost use Rattle.lanes.specs.Lanes.{Each, lane};
@@ -75,7 +75,7 @@ fn iterate(inner: [u32; 5], outer: [u32; 5], first: [u32; 5], count: u32) -> [u3
 // The chaining words after the salt, the block's number and the padding, where s stand after the key block.
 fn salted(s: [u32; 5], salt: &[u8], n: u32) -> [u32; 5]
     requires { ⌜ length (now salt) < 2 ^ 60 ⌝ }
-    ensures { λ r. ⌜ r ≡ finish s 64 (now (salt .entry) ++ bigEndian 4 n) ⌝ }
+    ensures { λ r. ⌜ r ≡ finish s 64 (now (salt .entry) ++ be32 n) ⌝ }
 {
     let v = sha1::absorb(s, salt);
     let len = salt.len();
@@ -201,7 +201,7 @@ fn put_fours(
     for g in 0..groups {
         let at = 80 * g;
         let t = four_blocks(inner, outer, salt, count, (4 * g + 1) as u32);
-        let e = octets::least(80, n - at);
+        let e = octets::min(80, n - at);
         octets::copy_into(out, at, &t[..e]);
     }
 }
@@ -217,7 +217,7 @@ fn put_rest(out: &mut [u8], inner: [u32; 5], outer: [u32; 5], salt: &[u8], count
     for j in done..blocks {
         let at = 20 * j;
         let t = block(inner, outer, salt, count, (j + 1) as u32);
-        let e = octets::least(20, n - at);
+        let e = octets::min(20, n - at);
         octets::copy_into(out, at, &t[..e]);
     }
 }

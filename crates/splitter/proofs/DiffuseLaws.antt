@@ -5,7 +5,7 @@ use Prim.Native.Nat.{ℕ, _+_, _-_, _*_, _≤_, _<_, min}
 use native.Mathlib.Omega.{arith}
 use lib.ListN.{length, take, drop, length-drop, length-append}
 use lib.Seq.{take-at, length-take-le}
-use Rattle.octets.specs.Octets.{Str, bigEndian}
+use Rattle.octets.specs.Octets.{Str, be32}
 use Rattle.octets.specs.Pieces.{inPieces}
 use Rattle.octets.specs.Splice.{splice}
 use Rattle.octets.proofs.OctetsLaws.{str-crop}
@@ -26,7 +26,7 @@ put-two b x y p b₁ b₂ n l ex e₁ e₂ =
 -- a turn and the end of the loop in place
 module _ (H : Digest) (pos : 1 ≤ H .size) where
   pub diffuse-step : (at n i : ℕ) (s s′ h q : List ℕ) → at < length s → n ≡ min (H .size) (length s - at) → length h ≡ H .size
-      → h ≡ H .hash (bigEndian 4 i ++ take (at + n - at) (drop at s)) → s′ ≡ splice s at (take n h)
+      → h ≡ H .hash (be32 i ++ take (at + n - at) (drop at s)) → s′ ≡ splice s at (take n h)
       → take at s ++ inPieces (H .size) (pieceDigest H) i (drop at s) ≡ q
       → take (at + n) s′ ++ inPieces (H .size) (pieceDigest H) (i + 1) (drop (at + n) s′) ≡ q
   unfolding splice pieceDigest
@@ -35,8 +35,8 @@ module _ (H : Digest) (pos : 1 ≤ H .size) where
       let ly : length (take n h) ≡ n = length-take-le n h (omega arith) in
       let lx : length (take n (drop at s)) ≡ n = length-take-le n (drop at s) (omega (arith, length-drop at s)) in
       pieces-step (H .size) pos (pieceDigest H) at n i s s′ (take n h) q ha en ly
-      (ap (take n) (eh ∙ ap (λ (m : ℕ). H .hash (bigEndian 4 i ++ take m (drop at s))) k)
-      ∙ ap (λ (m : ℕ). take m (H .hash (bigEndian 4 i ++ take n (drop at s)))) (sym lx))
+      (ap (take n) (eh ∙ ap (λ (m : ℕ). H .hash (be32 i ++ take m (drop at s))) k)
+      ∙ ap (λ (m : ℕ). take m (H .hash (be32 i ++ take n (drop at s)))) (sym lx))
       (es ∙ ap (λ (m : ℕ). take at s ++ (take n h ++ drop (at + m) s)) ly) e
 
   pub diffuse-end : (at i : ℕ) (s q : List ℕ) → length s ≤ at → take at s ++ inPieces (H .size) (pieceDigest H) i (drop at s) ≡ q → s ≡ q
@@ -45,7 +45,7 @@ module _ (H : Digest) (pos : 1 ≤ H .size) where
 module _ (H : Digest) (ok : LawfulDigest H) where
   str-pieceDigest : (i n : ℕ) (x : List ℕ) → n ≤ H .size → Unit {0} → Str n x → Str n (pieceDigest H i x)
   unfolding pieceDigest
-  str-pieceDigest i n x l p h = rw (h .len) (str-crop n (ok .str-hash (bigEndian 4 i ++ x)) l)
+  str-pieceDigest i n x l p h = rw (h .len) (str-crop n (ok .str-hash (be32 i ++ x)) l)
 
   pub str-diffuse : (n : ℕ) (x : List ℕ) → Str n x → Str n (diffuse H x)
   unfolding diffuse

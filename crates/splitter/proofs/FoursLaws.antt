@@ -5,7 +5,7 @@ use Prim.Native.Nat.{ℕ, zero, suc, _+_, _-_, _*_, _/_, _%_, _≤_, _<_}
 use native.Mathlib.Omega.{arith}
 use lib.ListN.{length, getD, take, drop, length-take, length-append}
 use lib.Seq.{drop-cons, drop-length, take-all, take-append-add, length-take-le, sets, sets-eq}
-use Rattle.octets.specs.Octets.{zeros, bigEndian, quadAt}
+use Rattle.octets.specs.Octets.{zeros, bigEndian, be32At, be32}
 use Rattle.octets.specs.Pieces.{pieces, inPieces}
 use Rattle.octets.specs.Splice.{splice}
 use Rattle.octets.proofs.OctetsLaws.{length-bigEndian, length-zeros}
@@ -53,13 +53,13 @@ hash-short m h =
     ap (λ (k : ℕ). digest (blocks initial p k)) n ∙ ap (λ (x : List ℕ). digest (compressWords initial (words x 16))) (take-all 64 p (omega arith))
 
 -- and so is a piece with its number
-hash-piece : (d s : List ℕ) (i : ℕ) → s ≡ compressWords initial (pieceBlock d i) → digest s ≡ hash (bigEndian 4 i ++ piece d i)
+hash-piece : (d s : List ℕ) (i : ℕ) → s ≡ compressWords initial (pieceBlock d i) → digest s ≡ hash (be32 i ++ piece d i)
 unfolding pieceBlock
 hash-piece d s i e =
-    let l : length (bigEndian 4 i ++ piece d i) ≡ 4 + length (piece d i) =
-    length-append (bigEndian 4 i) (piece d i) ∙ ap (λ (n : ℕ). n + length (piece d i)) (length-bigEndian 4 i) in
-    ap digest (e ∙ ap (λ (n : ℕ). compressWords initial (words ((bigEndian 4 i ++ piece d i) ++ padding n) 16)) (sym l))
-    ∙ sym (hash-short (bigEndian 4 i ++ piece d i) (omega (arith, length-take 20 (drop (20 * i) d))))
+    let l : length (be32 i ++ piece d i) ≡ 4 + length (piece d i) =
+    length-append (be32 i) (piece d i) ∙ ap (λ (n : ℕ). n + length (piece d i)) (length-bigEndian 4 i) in
+    ap digest (e ∙ ap (λ (n : ℕ). compressWords initial (words ((be32 i ++ piece d i) ++ padding n) 16)) (sym l))
+    ∙ sym (hash-short (be32 i ++ piece d i) (omega (arith, length-take 20 (drop (20 * i) d))))
 
 -- ---- the words that are stored
 
@@ -71,11 +71,11 @@ pieceRows a b c e f =
 
 -- those for the block d
 abbrev rowsOf : List ℕ → List (List ℕ)
-rowsOf d = pieceRows (across d 0 (quadAt d 60)) (across d 4 0x80000000) (across d 8 0) (across d 12 0) (across d 16 0)
+rowsOf d = pieceRows (across d 0 (be32At d 60)) (across d 4 0x80000000) (across d 8 0) (across d 12 0) (across d 16 0)
 
 -- each lane has its piece's block
 rows-piece : (d : List ℕ) → length d ≡ 64 → Each (λ i. lane i (rowsOf d) ≡ pieceBlock d i)
-unfolding elements pieceBlock words quadAt padding zeros bigEndian
+unfolding elements pieceBlock words be32At padding zeros bigEndian
 rows-piece d h =
     each (λ (i : ℕ). lane i (rowsOf d) ≡ pieceBlock d i)
     (written-out (λ (x : List ℕ). lane 0 (rowsOf x) ≡ pieceBlock x 0) d h refl)
@@ -84,11 +84,11 @@ rows-piece d h =
     (written-out (λ (x : List ℕ). lane 3 (rowsOf x) ≡ pieceBlock x 3) d h refl)
 
 -- so the words stored one after the other are the four blocks
-pub loaded : (d a b c e f : List ℕ) (w : List (List ℕ)) (x i : ℕ) → length d ≡ 64 → length w ≡ 96 → i < 4 → x ≡ quadAt d 60
+pub loaded : (d a b c e f : List ℕ) (w : List (List ℕ)) (x i : ℕ) → length d ≡ 64 → length w ≡ 96 → i < 4 → x ≡ be32At d 60
     → a ≡ across d 0 x → b ≡ across d 4 0x80000000 → c ≡ across d 8 0 → e ≡ across d 12 0 → f ≡ across d 16 0
     → take 16 (lane i (sets w 0 (pieceRows a b c e f))) ≡ pieceBlock d i
 loaded d a b c e f w x i h l hi ex ea eb ec ee ef =
-    let e₁ : a ≡ across d 0 (quadAt d 60) = ea ∙ ap (λ (y : ℕ). across d 0 y) ex in
+    let e₁ : a ≡ across d 0 (be32At d 60) = ea ∙ ap (λ (y : ℕ). across d 0 y) ex in
     let r : pieceRows a b c e f ≡ rowsOf d = rw (e₁, eb, ec, ee, ef) in
     ap (λ (v : List (List ℕ)). take 16 (lane i v)) (sets-eq (pieceRows a b c e f) w 0 (omega arith)) ∙ ap (lane i) r ∙ rows-piece d h i hi
 
@@ -107,7 +107,7 @@ crop-64 a b c e la lb lc =
 
 -- the digest of piece i and its number
 abbrev hashes : List ℕ → ℕ → List ℕ
-hashes d i = hash (bigEndian 4 i ++ piece d i)
+hashes d i = hash (be32 i ++ piece d i)
 
 diffuse-pieces : (d : List ℕ) → length d ≡ 64
     → diffuse sha1 d ≡ take 20 (hashes d 0) ++ (take 20 (hashes d 1) ++ (take 20 (hashes d 2) ++ (take 4 (hashes d 3) ++ [])))
@@ -123,12 +123,12 @@ pub diffused : (d out b s t u v : List ℕ) → length d ≡ 64 → length b ≡
     → out ≡ splice d 0 (take 64 b) → out ≡ diffuse sha1 d
 unfolding splice
 diffused d out b s t u v h lb es et eu ev eb eo =
-    let whole : (i : ℕ) → take 20 (hashes d i) ≡ hashes d i = λ i. take-all 20 (hashes d i) (omega (arith, str-hash (bigEndian 4 i ++ piece d i) .len)) in
+    let whole : (i : ℕ) → take 20 (hashes d i) ≡ hashes d i = λ i. take-all 20 (hashes d i) (omega (arith, str-hash (be32 i ++ piece d i) .len)) in
     let e : b ≡ hashes d 0 ++ (hashes d 1 ++ (hashes d 2 ++ hashes d 3)) =
     eb ∙ rw (hash-piece d s 0 es, hash-piece d t 1 et, hash-piece d u 2 eu, hash-piece d v 3 ev) in
     let c : take 64 b ≡ hashes d 0 ++ (hashes d 1 ++ (hashes d 2 ++ take 4 (hashes d 3))) =
     ap (take 64) e ∙ crop-64 (hashes d 0) (hashes d 1) (hashes d 2) (hashes d 3)
-    (str-hash (bigEndian 4 0 ++ piece d 0) .len) (str-hash (bigEndian 4 1 ++ piece d 1) .len) (str-hash (bigEndian 4 2 ++ piece d 2) .len) in
+    (str-hash (be32 0 ++ piece d 0) .len) (str-hash (be32 1 ++ piece d 1) .len) (str-hash (be32 2 ++ piece d 2) .len) in
     let f : take 64 b ≡ diffuse sha1 d =
     c ∙ sym (diffuse-pieces d h ∙ rw (whole 0, whole 1, whole 2, append-nil (take 4 (hashes d 3)))) in
     let n : 0 + length (take 64 b) ≡ length d = omega (arith, length-take-le 64 b (omega arith)) in

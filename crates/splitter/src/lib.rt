@@ -4,7 +4,7 @@ ghost use mathlib.Core.Path.{_≡_};
 ghost use mathlib.Core.List.{_++_};
 ghost use Prim.Native.Nat.{_+_, _-_, _*_, _≤_, _<_, _^_};
 ghost use lib.ListN.{length, take};
-ghost use Rattle.octets.specs.Octets.{bigEndian, xors, zeros};
+ghost use Rattle.octets.specs.Octets.{be32, xors, zeros};
 ghost use Rattle.sha1.specs.Sha1.{hash, sha1};
 ghost use Rattle.suite.specs.Split.{running, split, mergeFrom, merge};
 ghost use Rattle.lanes.specs.Lanes.{Each, lane};
@@ -14,7 +14,7 @@ ghost use Rattle.splitter.specs.Fours.{pieceBlock, across};
 // The digest of a piece's number and the piece.
 fn numbered_digest(piece: &[u8], number: u32) -> [u8; 20]
     requires { ⌜ length (now piece) ≤ 20 ⌝ }
-    ensures { λ r. ⌜ r ≡ hash (bigEndian 4 number ++ now (piece .entry)) ⌝ }
+    ensures { λ r. ⌜ r ≡ hash (be32 number ++ now (piece .entry)) ⌝ }
 {
     let mut b = [0u8; 24];
     let x = octets::be32(number);
@@ -33,7 +33,7 @@ fn diffuse_pieces(d: &mut [u8])
     let mut i: u32 = 0;
     let mut at: usize = 0;
     while at < len {
-        let n = octets::least(20, len - at);
+        let n = octets::min(20, len - at);
         let e = at + n;
         let h = numbered_digest(&d[at..e], i);
         octets::copy_into(d, at, &h[..n]);

@@ -1,4 +1,5 @@
 // Official vectors of the primitives, run against the code: one line for each, its name and ok or FAILED.
+mod annex_b;
 mod blocks;
 mod derivations;
 mod digests;
@@ -17,14 +18,12 @@ fn main() {
     derivations::cases_5_and_6();
     blocks::keys_of_16();
     blocks::keys_of_32();
-    units::vector_1();
-    units::vector_2();
-    units::vector_3();
-    units::vector_4();
-    units::vector_5();
-    units::vector_10();
-    units::vector_11();
-    units::vector_12();
+    units::vectors_1_to_3();
+    units::vectors_4_to_6();
+    units::vectors_7_to_9();
+    units::vectors_10_to_12();
+    units::vectors_13_and_14();
+    units::vector_19();
     splits::diffusion();
     splits::one_of_32();
     splits::three_of_32();

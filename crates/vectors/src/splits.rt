@@ -37,7 +37,8 @@ fn splits(
     name: &[u8],
     digits: &[u8],
 )
-    requires { ⌜ (1 ≤ n) × (length (now area) ≡ (n - 1) * length (now key) + length (now key)) × (length (now random) ≡ (n - 1) * length (now key)) × (length (now key) < 2 ^ 32) × (length (now back) ≡ length (now key)) ⌝ }
+    requires { ⌜ (1 ≤ n) × (length (now area) ≡ (n - 1) * length (now key) + length (now key)) × (length (now random) ≡ (n - 1) * length (now key))
+        × (length (now key) < 2 ^ 32) × (length (now back) ≡ length (now key)) ⌝ }
 {
     count_up(key, 0, 1);
     count_up(random, 7, 7);

@@ -12,10 +12,10 @@ use lib.ListN.{length, getD, set, take, drop, length-set, length-drop, take-appe
 use lib.Seq.{drop-drop, getD-set-same, getD-set-other}
 use lib.Pow.{high, split}
 use Rattle.octets.specs.Octets.{_⊕_, xors}
-use Rattle.octets.specs.Splice.{slice, splice}
+use Rattle.octets.specs.Splice.{part, splice}
 use Rattle.octets.proofs.XorLaws.{⊕-div, ⊕-mod, ⊕-undo}
 use Rattle.octets.proofs.OctetsLaws.{xors-append, xors-undo}
-use Rattle.octets.proofs.SpliceLaws.{slice-splice-same, slice-splice-before, length-splice}
+use Rattle.octets.proofs.SpliceLaws.{part-splice-same, part-splice-before, length-splice}
 use Rattle.suite.specs.Units.{inUnits}
 use Rattle.aes.specs.Aes.{cipher}
 use Rattle.aes.specs.Planes.{column, Sliced}
@@ -98,7 +98,7 @@ length-column x = refl
 abbrev Summed : ℕ → List ℕ → List ℕ → List ℕ → Type 0
 Summed j s q u = (m : ℕ) → m < j → column (bitXor (getD q m 0) (getD u m 0)) ≡ take 4 (drop (4 * m) s)
 
-summed-block : (s q u : List ℕ) (n b : ℕ) → Summed n s q u → 4 * b + 4 ≤ n → slice s (b * 16) 16 ≡ xors (planes.block b q) (planes.block b u)
+summed-block : (s q u : List ℕ) (n b : ℕ) → Summed n s q u → 4 * b + 4 ≤ n → part s (b * 16) 16 ≡ xors (planes.block b q) (planes.block b u)
 unfolding planes.block
 summed-block s q u n b e h =
     let w : ℕ → ℕ = λ v. bitXor (getD q v 0) (getD u v 0) in
@@ -136,7 +136,7 @@ loaded-more s u q j x h e o =
       old = λ m k. getD-set-other q j m y 0 (λ e. absurd (omega arith)) ∙ o .old m (omega arith);
     }
 
-pub loaded-block : (s u q : List ℕ) (n b : ℕ) → Loaded s u n q → 4 * b + 4 ≤ n → planes.block b q ≡ xors (slice s (b * 16) 16) (planes.block b u)
+pub loaded-block : (s u q : List ℕ) (n b : ℕ) → Loaded s u n q → 4 * b + 4 ≤ n → planes.block b q ≡ xors (part s (b * 16) 16) (planes.block b u)
 loaded-block s u q n b o h =
     sym (ap (λ (x : List ℕ). xors x (planes.block b u)) (summed-block s q u n b (o .new) h) ∙ xors-undo (planes.block b q) (planes.block b u))
 
@@ -151,19 +151,19 @@ written-none q u s = record { size = refl; new = λ m h. absurd (omega arith) }
 
 pub written-more : (q u s₀ s s′ x : List ℕ) (j : ℕ) → 4 * j + 4 ≤ length s₀ → x ≡ column (bitXor (getD q j 0) (getD u j 0)) → s′ ≡ splice s (4 * j) x → Written q u s₀ j s
     → Written q u s₀ (j + 1) s′
-unfolding slice
+unfolding part
 written-more q u s₀ s s′ x j h e es o =
     let lx : length x ≡ 4 = ap length e ∙ length-column (bitXor (getD q j 0) (getD u j 0)) in
     let ls : length s ≡ length s₀ = o .size in record {
       size = ap length es ∙ length-splice s (4 * j) x (omega arith) ∙ ls;
       new = λ m l. ⊎-elim
-          (λ k. ap (λ (n : ℕ). column (bitXor (getD q n 0) (getD u n 0))) k ∙ sym e ∙ sym (slice-splice-same s (4 * j) x (omega arith)) ∙ ap (λ (n : ℕ). take n (drop (4 * j) (splice s (4 * j) x))) lx
+          (λ k. ap (λ (n : ℕ). column (bitXor (getD q n 0) (getD u n 0))) k ∙ sym e ∙ sym (part-splice-same s (4 * j) x (omega arith)) ∙ ap (λ (n : ℕ). take n (drop (4 * j) (splice s (4 * j) x))) lx
           ∙ ap₂ (λ (n : ℕ) (y : List ℕ). take 4 (drop (4 * n) y)) (sym k) (sym es))
-          (λ k. o .new m k ∙ sym (slice-splice-before s (4 * j) x (4 * m) 4 (omega arith) (omega arith)) ∙ ap (λ (y : List ℕ). take 4 (drop (4 * m) y)) (sym es))
+          (λ k. o .new m k ∙ sym (part-splice-before s (4 * j) x (4 * m) 4 (omega arith) (omega arith)) ∙ ap (λ (y : List ℕ). take 4 (drop (4 * m) y)) (sym es))
           (eq-or-lt-of-le (below m j l));
     }
 
-pub written-block : (q u s₀ s : List ℕ) (n b : ℕ) → Written q u s₀ n s → 4 * b + 4 ≤ n → slice s (b * 16) 16 ≡ xors (planes.block b q) (planes.block b u)
+pub written-block : (q u s₀ s : List ℕ) (n b : ℕ) → Written q u s₀ n s → 4 * b + 4 ≤ n → part s (b * 16) 16 ≡ xors (planes.block b q) (planes.block b u)
 written-block q u s₀ s n b o h = summed-block s q u n b (o .new) h
 
 -- ---- the blocks of a group, each under its tweak
@@ -178,8 +178,8 @@ unfolding tweakAt
 tweak-next b t x y e f = rw add-one (f ∙ ap double e)
 
 module _ (f : List ℕ → List ℕ) where
-  from-blocks : (m : ℕ) (t s s′ : List ℕ) → length s′ ≡ m * 16 → ((b : ℕ) → b < m → slice s′ (b * 16) 16 ≡ block f (tweakAt b t) (slice s (b * 16) 16)) → s′ ≡ blocks f m t s
-  unfolding blocks slice tweakAt
+  from-blocks : (m : ℕ) (t s s′ : List ℕ) → length s′ ≡ m * 16 → ((b : ℕ) → b < m → part s′ (b * 16) 16 ≡ block f (tweakAt b t) (part s (b * 16) 16)) → s′ ≡ blocks f m t s
+  unfolding blocks part tweakAt
   from-blocks zero t s [] l e = refl
   from-blocks zero t s (x ∷ s′) l e = absurd (omega arith)
   from-blocks (suc m) t s s′ l e =
@@ -192,13 +192,13 @@ module _ (f : List ℕ → List ℕ) where
 
   -- u has the tweaks, x what is loaded, y what the cipher made of it, s′ what is stored
   pub group : (m : ℕ) (t s s′ u x y : List ℕ) → m ≤ 32 → length s′ ≡ m * 16 → ((b : ℕ) → b < 32 → planes.block b u ≡ tweakAt b t)
-      → ((b : ℕ) → b < m → planes.block b x ≡ xors (slice s (b * 16) 16) (planes.block b u)) → ((b : ℕ) → b < 32 → planes.block b y ≡ f (planes.block b x))
-      → ((b : ℕ) → b < m → slice s′ (b * 16) 16 ≡ xors (planes.block b y) (planes.block b u)) → s′ ≡ blocks f m t s
+      → ((b : ℕ) → b < m → planes.block b x ≡ xors (part s (b * 16) 16) (planes.block b u)) → ((b : ℕ) → b < 32 → planes.block b y ≡ f (planes.block b x))
+      → ((b : ℕ) → b < m → part s′ (b * 16) 16 ≡ xors (planes.block b y) (planes.block b u)) → s′ ≡ blocks f m t s
   unfolding block
   group m t s s′ u x y hm l eu ex ey es =
       from-blocks m t s s′ l (λ b h.
       let k : b < 32 = omega arith in
-      es b h ∙ ap₂ xors (ey b k ∙ ap f (ex b h ∙ ap (xors (slice s (b * 16) 16)) (eu b k))) (eu b k))
+      es b h ∙ ap₂ xors (ey b k ∙ ap f (ex b h ∙ ap (xors (part s (b * 16) 16)) (eu b k))) (eu b k))
 
 -- ---- the first tweaks of data units
 

@@ -6,7 +6,7 @@ ghost use mathlib.Core.List.{List, _++_};
 ghost use Prim.Native.Nat.{ℕ, _+_, _-_, _*_, _/_, _%_, _<_, _≤_, _^_};
 ghost use lib.ListN.{length};
 ghost use Rattle.octets.specs.Octets.{xors};
-ghost use Rattle.octets.specs.Splice.{slice};
+ghost use Rattle.octets.specs.Splice.{part};
 ghost use Rattle.suite.specs.Units.{inUnits};
 ghost use Rattle.aes.specs.Planes.{column, block, Sliced};
 ghost use Rattle.xts.specs.Xts.{littleEndian, double, blocks, xtsEncrypt, xtsDecrypt};
@@ -102,7 +102,7 @@ fn tweak_at(t: &[u32; 128], b: usize) -> Tweak
 // The blocks of q with the bytes of s added to them.
 fn load(q: &mut [u32; 128], s: &[u8])
     requires { ⌜ (length (now q) ≡ 128) × (length (now s) ≤ 512) × (length (now s) % 16 ≡ 0) ⌝ }
-    ensures { λ _. ⌜ (length (now (q .exit)) ≡ 128) × ((b : ℕ) → b < length (now (s .entry)) / 16 → block b (now (q .exit)) ≡ xors (slice (now (s .entry)) (b * 16) 16) (block b (now (q .entry)))) ⌝ }
+    ensures { λ _. ⌜ (length (now (q .exit)) ≡ 128) × ((b : ℕ) → b < length (now (s .entry)) / 16 → block b (now (q .exit)) ≡ xors (part (now (s .entry)) (b * 16) 16) (block b (now (q .entry)))) ⌝ }
 {
     let n = s.len() / 4;
     let mut j: usize = 0;
@@ -127,7 +127,7 @@ fn bytes(x: u32) -> [u8; 4]
 // The sums of the blocks of q and u, as many as s has, as its bytes.
 fn store(s: &mut [u8], q: &[u32; 128], u: &[u32; 128])
     requires { ⌜ (length (now q) ≡ 128) × (length (now u) ≡ 128) × (length (now s) ≤ 512) × (length (now s) % 16 ≡ 0) ⌝ }
-    ensures { λ _. ⌜ ((b : ℕ) → b < length (now (s .entry)) / 16 → slice (now (s .exit)) (b * 16) 16 ≡ xors (block b (now (q .entry))) (block b (now (u .entry)))) ⌝ }
+    ensures { λ _. ⌜ ((b : ℕ) → b < length (now (s .entry)) / 16 → part (now (s .exit)) (b * 16) 16 ≡ xors (block b (now (q .entry))) (block b (now (u .entry)))) ⌝ }
 {
     let n = s.len() / 4;
     let mut j: usize = 0;
@@ -175,7 +175,7 @@ fn run_group(s: &mut [u8], first: u64, forward: bool, ks: &[u32], vs: &[u32], n:
     let mut at: usize = 0;
     while at < len {
         let x = tweak_at(&t, at / 512);
-        let k = octets::least(512, len - at);
+        let k = octets::min(512, len - at);
         let e = at + k;
         run_blocks(&mut s[at..e], x, forward, ks, n);
         at = e;
@@ -191,7 +191,7 @@ fn run_sliced(s: &mut [u8], first: u64, forward: bool, ks: &[u32], vs: &[u32], n
     let mut at: usize = 0;
     while at < len {
         let u = first + (at / 512) as u64;
-        let k = octets::least(16384, len - at);
+        let k = octets::min(16384, len - at);
         let e = at + k;
         run_group(&mut s[at..e], u, forward, ks, vs, n);
         at = e;

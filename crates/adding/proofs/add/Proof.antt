@@ -1,27 +1,72 @@
--- `adding::add` meets its contract.
-use mathlib.Core.Path.{_≡_, refl, sym, _∙_}
+-- `adding::add` meets its contract: each place knows which checks have passed, and each return is the rules' step.
+use mathlib.Core.Path.{_≡_, sym, _∙_}
+use mathlib.Core.List.{List}
+use native.Mathlib.Omega.{arith}
+use lib.ListN.{length}
+use borrow.Author.Tests.{eqb-true, not-true, not-false}
 use borrow.Author.Needs.{needs}
-use Rattle.rules.specs.Checks.{first}
-use Rattle.rules.specs.Header.{headerChecks}
-use Rattle.rules.specs.Calls.{Call, add, done, answer}
+use Rattle.rules.specs.Checks.{Check, first}
+use Rattle.rules.specs.Facts.{Facts, slotInput}
+use Rattle.rules.specs.Calls.{Call, add, keyOk, earlyChecks, lateChecks, done, answer}
 use Rattle.rules.specs.Step.{writes}
-use Rattle.rules.proofs.StepLaws.{settled-header, settled-check, settled-accepted}
-use Rattle.built.specs.Built.{aesXtsSha1, built}
+use Rattle.rules.proofs.ChecksLaws.{Pass, accepted, refused-by, first-pass}
+use Rattle.rules.proofs.StepLaws.{numbered-early, step-header, step-early, step-late, step-accepted, does-refused, does-accepted}
+use Rattle.profiles.specs.Suites.{built}
 use Rattle.header.specs.Refusals.{number}
-use Rattle.keyslot.specs.Keyslot.{slotInput}
-use Rattle.adding.proofs.AddLaws.{room}
+use Rattle.header.specs.Records.{factsIn, HeaderOk}
+use Rattle.header.proofs.SoundLaws.{sound}
 use Rattle.adding.proofs.add.Statement.{statement}
 use Rattle.adding.proofs.add.Tie as tie
 
 abbrev called : tie.Start → Call
 called s = let a = s .args in add (a .slot) (a .key .now) (slotInput (a .passphrase .now) (a .salt .now) (a .count) (a .random .now))
 
--- where the header is accepted
-abbrev start : tie.Else1 → tie.Start
-start c = c .before .before .before .before .before .before .before .before
+abbrev facts : tie.Start → Facts
+facts s = factsIn (s .args .image .now)
 
-sound-header : (c : tie.Else1) → first (headerChecks built (start c .args .image .now)) ≡ 0
-sound-header c = sym (c .before .before .header-check .ensures aesXtsSha1) ∙ sym (c .before .number-of .ensures) ∙ c .if1 .left
+abbrev early : tie.Start → List Check
+early s = earlyChecks (facts s) (called s)
+
+abbrev late : tie.Start → List Check
+late s = lateChecks (facts s) (called s)
+
+-- ---- where the header is accepted
+
+abbrev start₁ : tie.After-number-of → tie.Start
+start₁ c = c .before .before .before .before .before .before .before
+
+header-ok : (c : tie.Else1) → HeaderOk (start₁ (c .before) .args .image .now)
+header-ok c = sym (c .before .before .header-check .ensures) ∙ sym (c .before .number-of .ensures) ∙ c .if1 .left
+
+-- ---- where the early checks have passed
+
+abbrev checked : tie.After-number-of2 → tie.Else1
+checked c = c .before .before .before
+
+abbrev start₂ : tie.After-number-of2 → tie.Start
+start₂ c = start₁ (checked c .before)
+
+early-zero : (c : tie.Else2) → first (early (start₂ (c .before))) ≡ 0
+early-zero c = sym (c .before .before .add-check .ensures (start₂ (c .before) .args .salt .now)) ∙ sym (c .before .number-of2 .ensures) ∙ c .if2 .left
+
+early-passed : (c : tie.Else2) → Pass (early (start₂ (c .before)))
+early-passed c = let s = start₂ (c .before) in accepted (early s) (numbered-early (facts s) (called s)) (early-zero c)
+
+-- ---- where the key matches
+
+abbrev judged : tie.After-key-matches → tie.Else2
+judged c = c .before .before
+
+abbrev start₃ : tie.After-key-matches → tie.Start
+start₃ c = start₂ (judged c .before)
+
+late-zero : (c : tie.Else3) → first (late (start₃ (c .before))) ≡ 0
+unfolding lateChecks
+late-zero c =
+    let t = c .before .key-matches in
+    first-pass (late (start₃ (c .before))) (sym (t .ensures) ∙ not-false (t .result) (c .if3 .left), tt)
+
+-- ---- needs
 
 header-check-requires : tie.Need-header-check-requires
 header-check-requires c κs = search needs
@@ -34,12 +79,13 @@ same-length c = search needs
 
 returns : tie.Need-returns
 returns c =
-    let s = c .before .before .before .before .before .before .before .before in
-    settled-header built (s .args .image .now) (called s) (number (c .before .before .header-check .result)) (λ q. c .if1 .taken (c .before .number-of .ensures ∙ q))
-    (c .before .before .header-check .ensures aesXtsSha1)
+    let s = start₁ (c .before) in
+    let h = c .before .before .header-check in
+    does-refused built (s .args .image .now) (called s) (number (h .result))
+    (step-header built (s .args .image .now) (called s) (number (h .result)) (λ q. c .if1 .taken (c .before .number-of .ensures ∙ q)) (h .ensures))
 
 add-check-requires : tie.Need-add-check-requires
-add-check-requires c κs = sound-header (c .before)
+add-check-requires c κs = header-ok (c .before)
 
 number-of-requires-2 : tie.Need-number-of-requires-2
 number-of-requires-2 c κs = search needs
@@ -49,30 +95,53 @@ same-length-2 c = search needs
 
 returns-2 : tie.Need-returns-2
 returns-2 c =
-    let h = c .before .before .before .before in
-    let s = start h in
-    settled-check built (s .args .image .now) (called s) (sound-header h) (number (c .before .before .add-check .result)) (λ q. c .if2 .taken (c .before .number-of2 .ensures ∙ q))
-    (c .before .before .add-check .ensures (s .args .salt .now))
+    let s = start₂ (c .before) in
+    let m = s .args .image .now in
+    let r = c .before .before .add-check in
+    does-refused built m (called s) (number (r .result))
+    (step-early built m (called s) (header-ok (checked (c .before))) (number (r .result)) (λ q. c .if2 .taken (c .before .number-of2 .ensures ∙ q)) (r .ensures (s .args .salt .now)))
 
-enable-slot-requires : tie.Need-enable-slot-requires
-enable-slot-requires c κs =
-    let h = c .before .before .before .before .before in
-    let a = start h .args in
-    let r = room (a .image .now) (sound-header h) (a .slot) (a .key .now) (a .passphrase .now) (a .salt .now) (a .count) (a .random .now)
-    (sym (c .before .before .before .add-check .ensures (a .salt .now)) ∙ sym (c .before .before .number-of2 .ensures) ∙ c .before .if2 .left) in
-    (sound-header h, r .0, r .1, r .2, r .3, r .4, r .5)
+key-matches-requires : tie.Need-key-matches-requires
+unfolding earlyChecks keyOk
+key-matches-requires c κs =
+    let e = c .before in
+    let ok = header-ok (checked (e .before)) in
+    let s = start₂ (e .before) in
+    (ok, omega (arith, eqb-true (length (s .args .key .now)) (facts s .profile .keyBytes) (early-passed e .1 .1 .0), sound (s .args .image .now) ok .key-most))
 
 same-length-3 : tie.Need-same-length-3
 same-length-3 c = search needs
 
 returns-3 : tie.Need-returns-3
-unfolding answer done writes
+unfolding lateChecks
 returns-3 c =
-    let h = c .before .before .before .before .before .before .before .before in
-    let s = start h in
-    let k = c .before .before .before .before .before .before .add-check in
-    settled-accepted built (s .args .image .now) (called s) (sound-header h) (number (k .result)) _ (sym (c .before .before .before .before .before .number-of2 .ensures) ∙ c .before .before .before .before .if2 .left)
-    (k .ensures (s .args .salt .now)) refl (c .before .before .enable-slot .ensures .0)
+    let e = judged (c .before) in
+    let s = start₃ (c .before) in
+    let m = s .args .image .now in
+    let t = c .before .key-matches in
+    does-refused built m (called s) 17
+    (step-late built m (called s) (header-ok (checked (e .before))) (early-zero e) 17 (λ q. omega arith)
+    (refused-by (late s) 0 tt (sym (t .ensures) ∙ not-true (t .result) (c .if3 .taken))))
+
+enable-slot-requires : tie.Need-enable-slot-requires
+unfolding earlyChecks
+enable-slot-requires c κs =
+    let e = judged (c .before .before) in
+    let p = early-passed e in
+    (header-ok (checked (e .before)), p .0, p .1 .1 .0, p .1 .1 .1 .0, p .1 .1 .1 .1 .0, p .1 .1 .1 .1 .1 .0)
+
+same-length-4 : tie.Need-same-length-4
+same-length-4 c = search needs
+
+returns-4 : tie.Need-returns-4
+unfolding answer done writes
+returns-4 c =
+    let k = c .before .before .before .before in
+    let e = judged (k .before) in
+    let s = start₃ (k .before) in
+    let m = s .args .image .now in
+    does-accepted built m (called s) _ (step-accepted built m (called s) (header-ok (checked (e .before))) (early-zero e) (late-zero k))
+    (number (e .before .before .add-check .result)) _ (sym (e .before .number-of2 .ensures) ∙ e .if2 .left) (c .before .before .enable-slot .ensures .0)
 
 pub add-spec : {M : Type 1} → statement M
 add-spec =
@@ -86,6 +155,9 @@ add-spec =
     number-of-requires-2
     same-length-2
     returns-2
-    enable-slot-requires
+    key-matches-requires
     same-length-3
-    returns-3)
+    returns-3
+    enable-slot-requires
+    same-length-4
+    returns-4)

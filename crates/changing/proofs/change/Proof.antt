@@ -1,92 +1,117 @@
--- `changing::change` meets its contract.
+-- `changing::change` meets its contract: each place knows which checks have passed, and each return is the rules' step.
 use mathlib.Core.Path.{_≡_, refl, sym, ap, _∙_}
 use mathlib.Core.List.{List, _++_}
 use mathlib.Core.Bool.{true}
-use Prim.Native.Nat.{ℕ, _+_, _-_, _≤_}
+use Prim.Native.Nat.{ℕ, _-_}
 use native.Mathlib.Omega.{arith}
 use lib.ListN.{length, take}
-use lib.Seq.{length-take-le}
-use borrow.Author.Tests.{not-true, not-false}
+use lib.Seq.{take-at}
+use borrow.Author.Tests.{eq-eqb, not-true, not-false}
 use borrow.Author.Needs.{needs}
-use Rattle.rules.specs.Checks.{first}
-use Rattle.rules.specs.Facts.{factsOf, candidate}
-use Rattle.rules.specs.Header.{headerChecks}
-use Rattle.rules.specs.Calls.{Call, change, opens, done, answer}
+use Rattle.octets.specs.Octets.{zeros}
+use Rattle.rules.specs.Checks.{Check, first}
+use Rattle.rules.specs.Facts.{Facts, SlotInput, slotInput, matches, candidate}
+use Rattle.rules.specs.Calls.{Call, change, keyOk, earlyChecks, lateChecks, done, answer}
 use Rattle.rules.specs.Step.{written, writes, enableWrites, disableWrites}
-use Rattle.rules.proofs.StepLaws.{settled-header, settled-check, settled-accepted}
-use Rattle.built.specs.Built.{aesXtsSha1, built}
+use Rattle.rules.proofs.ChecksLaws.{refused-by, first-pass}
+use Rattle.rules.proofs.StepLaws.{step-header, step-early, step-late, step-accepted, does-refused, does-accepted}
+use Rattle.profiles.specs.Suites.{built}
 use Rattle.header.specs.Refusals.{number}
+use Rattle.header.specs.Records.{factsIn, HeaderOk}
 use Rattle.header.proofs.SoundLaws.{sound}
-use Rattle.keyslot.specs.Keyslot.{slotInput}
-use Rattle.opening.specs.Opening.{keyOf}
-use Rattle.changing.specs.Changing.{earlyChecks}
-use Rattle.changing.proofs.ChangeLaws.{Room, room, early-bad, wrong-key, all-hold, key-front}
+use Rattle.slots.proofs.AreaLaws.{opens-on}
+use Rattle.changing.proofs.ChangeLaws.{Given, given}
 use Rattle.changing.proofs.change.Statement.{statement}
 use Rattle.changing.proofs.change.Tie as tie
 
+-- ---- the call
+
+abbrev facts : tie.Start → Facts
+facts s = factsIn (s .args .image .now)
+
+abbrev input : tie.Start → SlotInput
+input s = let a = s .args in slotInput (a .new .now) (a .salt .now) (a .count) (a .random .now)
+
 abbrev called : tie.Start → Call
-called s = let a = s .args in change (a .from) (a .old .now) (a .to) (slotInput (a .new .now) (a .salt .now) (a .count) (a .random .now)) (a .filler .now)
+called s = let a = s .args in change (a .from) (a .old .now) (a .to) (input s) (a .filler .now)
 
--- ---- what has passed, place by place
+abbrev early : tie.Start → List Check
+early s = earlyChecks (facts s) (called s)
 
--- the header
-abbrev start : tie.Else1 → tie.Start
-start c = c .before .before .before .before .before .before .before .before .before
+abbrev late : tie.Start → List Check
+late s = lateChecks (facts s) (called s)
 
-sound-header : (c : tie.Else1) → first (headerChecks built (start c .args .image .now)) ≡ 0
-sound-header c = sym (c .before .before .header-check .ensures aesXtsSha1) ∙ sym (c .before .number-of .ensures) ∙ c .if1 .left
+-- the key that the first slot gives
+abbrev recovered : tie.Start → List ℕ
+recovered s = candidate (facts s) (s .args .from) (s .args .old .now)
 
--- the checks that derive nothing
-abbrev checked : tie.Else2 → tie.Else1
-checked c = c .before .before .before .before
+-- ---- where the header is accepted
 
-abbrev call : tie.Else2 → tie.Start
-call c = start (checked c)
+abbrev start₁ : tie.After-number-of → tie.Start
+start₁ c = c .before .before .before .before .before .before .before .before
 
-early-zero : (c : tie.Else2) → let a = call c .args in first (earlyChecks (factsOf built (a .image .now)) (a .from) (a .old .now) (a .to) (a .new .now) (a .count) (a .random .now) (a .filler .now)) ≡ 0
-early-zero c = sym (c .before .before .change-check .ensures) ∙ sym (c .before .number-of2 .ensures) ∙ c .if2 .left
+header-ok : (c : tie.Else1) → HeaderOk (start₁ (c .before) .args .image .now)
+header-ok c = sym (c .before .before .header-check .ensures) ∙ sym (c .before .number-of .ensures) ∙ c .if1 .left
 
-given : (c : tie.Else2) → let a = call c .args in Room (a .image .now) (a .from) (a .old .now) (a .to) (a .new .now) (a .count) (a .random .now) (a .filler .now)
-given c = let a = call c .args in room (a .image .now) (sound-header (checked c)) (a .from) (a .old .now) (a .to) (a .new .now) (a .count) (a .random .now) (a .filler .now) (early-zero c)
+-- ---- where the early checks have passed
 
--- the trial
-abbrev tried : tie.After-try-slot → tie.Else2
+abbrev checked : tie.After-number-of2 → tie.Else1
+checked c = c .before .before .before
+
+abbrev start₂ : tie.After-number-of2 → tie.Start
+start₂ c = start₁ (checked c .before)
+
+early-zero : (c : tie.Else2) → first (early (start₂ (c .before))) ≡ 0
+early-zero c = sym (c .before .before .change-check .ensures (start₂ (c .before) .args .salt .now)) ∙ sym (c .before .number-of2 .ensures) ∙ c .if2 .left
+
+fit : (c : tie.Else2) → let s = start₂ (c .before) in Given (facts s) (s .args .from) (s .args .old .now) (s .args .to) (input s) (s .args .filler .now)
+fit c =
+    let s = start₂ (c .before) in
+    given (facts s) (s .args .from) (s .args .old .now) (s .args .to) (input s) (s .args .filler .now) (early-zero c)
+
+-- ---- where the first slot has been tried
+
+abbrev judged : tie.After-try-slot → tie.Else2
+judged c = c .before .before
+
+abbrev start₃ : tie.After-try-slot → tie.Start
+start₃ c = start₂ (judged c .before)
+
+ok₃ : (c : tie.After-try-slot) → HeaderOk (start₃ c .args .image .now)
+ok₃ c = header-ok (checked (judged c .before))
+
+match-is : (c : tie.After-try-slot) → matches (facts (start₃ c)) (recovered (start₃ c)) ≡ c .try-slot .result .opens
+match-is c =
+    let s = start₃ c in
+    opens-on (facts s) (s .args .from) (s .args .old .now) _ _ (fit (judged c) .live) refl refl ∙ sym (c .try-slot .ensures .opens-is)
+
+-- ---- where it opens
+
+abbrev tried : tie.Else3 → tie.After-try-slot
 tried c = c .before .before
 
-number-back : (c : tie.Else2) → call c .args .from - 1 + 1 ≡ call c .args .from
-number-back c = omega (arith, given c .from-least)
+opens : (c : tie.Else3) → tried c .try-slot .result .opens ≡ true
+opens c = not-false (tried c .try-slot .result .opens) (c .if3 .left)
 
-trial-is : (c : tie.After-try-slot) → let a = call (tried c) .args in c .try-slot .result .opens ≡ opens (factsOf built (a .image .now)) (a .from) (a .old .now)
-trial-is c = let a = call (tried c) .args in c .try-slot .ensures .opens-is ∙ ap (λ (j : ℕ). opens (factsOf built (a .image .now)) j (a .old .now)) (number-back (tried c))
+late-zero : (c : tie.Else3) → first (late (start₃ (tried c))) ≡ 0
+unfolding lateChecks
+late-zero c = first-pass (late (start₃ (tried c))) (match-is (tried c) ∙ opens c, tt)
 
--- a key of at most 64 bytes
-abbrev opened : tie.After-be32-at → tie.After-try-slot
-opened c = c .before .before .before .before
+-- the front of the trial's key is the candidate
+abbrev trial : tie.After-key-bytes → tie.After-try-slot
+trial c = tried (c .before .before)
 
-opened-true : (c : tie.After-be32-at) → opened c .try-slot .result .opens ≡ true
-opened-true c = not-false (opened c .try-slot .result .opens) (c .before .before .if3 .left)
+candidate-length : (c : tie.After-key-bytes) → length (recovered (start₃ (trial c))) ≡ facts (start₃ (trial c)) .profile .keyBytes
+candidate-length c = trial c .try-slot .ensures .length-is (opens (c .before .before))
 
-length-most : (c : tie.After-be32-at) → c .be32-at .result ≤ 64
-length-most c =
-    let e = tried (opened c) in
-    omega (arith, c .be32-at .ensures, sound aesXtsSha1 (call e .args .image .now) (sound-header (checked e)) .row .most)
+front : (c : tie.After-key-bytes) → take (c .key-bytes .result) (trial c .try-slot .result .key) ≡ recovered (start₃ (trial c))
+front c =
+    let k = recovered (start₃ (trial c)) in
+    let n = c .key-bytes in
+    ap (take (n .result)) (trial c .try-slot .ensures .key-is (opens (c .before .before)))
+    ∙ take-at k (zeros (64 - length k)) (n .result) (candidate-length c ∙ sym (n .ensures .0))
 
-key-long : (c : tie.After-be32-at) → length (opened c .try-slot .result .key) ≡ 64
-key-long c = search needs
-
-key-length : (c : tie.After-be32-at) → length (take (c .be32-at .result) (opened c .try-slot .result .key)) ≡ c .be32-at .result
-key-length c = length-take-le (c .be32-at .result) (opened c .try-slot .result .key) (omega (arith, length-most c, key-long c))
-
-key-is : (c : tie.After-be32-at) → let a = call (tried (opened c)) .args in take (c .be32-at .result) (opened c .try-slot .result .key) ≡ candidate (factsOf built (a .image .now)) (a .from) (a .old .now)
-key-is c =
-    let e = tried (opened c) in
-    let a = call e .args in
-    let t = opened c .try-slot in
-    let f = factsOf built (a .image .now) in
-    let k = number-back e in
-    key-front (a .image .now) (sound-header (checked e)) (a .from) (a .old .now) (t .result .key) (c .be32-at .result) (c .be32-at .ensures)
-    (t .ensures .key-is (opened-true c) ∙ ap (λ (j : ℕ). keyOf f j (a .old .now)) k)
-    (sym (ap (λ (j : ℕ). length (candidate f j (a .old .now))) k) ∙ t .ensures .length-is (opened-true c))
+-- ---- needs
 
 header-check-requires : tie.Need-header-check-requires
 header-check-requires c κs = search needs
@@ -99,12 +124,13 @@ same-length c = search needs
 
 returns : tie.Need-returns
 returns c =
-    let s = c .before .before .before .before .before .before .before .before .before in
-    settled-header built (s .args .image .now) (called s) (number (c .before .before .header-check .result)) (λ q. c .if1 .taken (c .before .number-of .ensures ∙ q))
-    (c .before .before .header-check .ensures aesXtsSha1)
+    let s = start₁ (c .before) in
+    let h = c .before .before .header-check in
+    does-refused built (s .args .image .now) (called s) (number (h .result))
+    (step-header built (s .args .image .now) (called s) (number (h .result)) (λ q. c .if1 .taken (c .before .number-of .ensures ∙ q)) (h .ensures))
 
 change-check-requires : tie.Need-change-check-requires
-change-check-requires c κs = sound-header (c .before)
+change-check-requires c κs = header-ok (c .before)
 
 number-of-requires-2 : tie.Need-number-of-requires-2
 number-of-requires-2 c κs = search needs
@@ -114,53 +140,50 @@ same-length-2 c = search needs
 
 returns-2 : tie.Need-returns-2
 returns-2 c =
-    let h = c .before .before .before .before in
-    let s = start h in
-    let a = s .args in
-    let r = number (c .before .before .change-check .result) in
-    settled-check built (a .image .now) (called s) (sound-header h) r (λ q. c .if2 .taken (c .before .number-of2 .ensures ∙ q))
-    (early-bad (factsOf built (a .image .now)) (a .from) (a .old .now) (a .to) (a .new .now) (a .count) (a .random .now) (a .filler .now) (a .salt .now) r (λ q. c .if2 .taken (c .before .number-of2 .ensures ∙ q)) (c .before .before .change-check .ensures))
-
-sub-try-slot : tie.Need-sub-try-slot
-sub-try-slot c = omega (arith, given (c .before) .from-least)
-
-cast-try-slot : tie.Need-cast-try-slot
-cast-try-slot c = search needs
+    let s = start₂ (c .before) in
+    let m = s .args .image .now in
+    let r = c .before .before .change-check in
+    does-refused built m (called s) (number (r .result))
+    (step-early built m (called s) (header-ok (checked (c .before))) (number (r .result)) (λ q. c .if2 .taken (c .before .number-of2 .ensures ∙ q)) (r .ensures (s .args .salt .now)))
 
 try-slot-requires : tie.Need-try-slot-requires
-try-slot-requires c κs = let e = c .before in (sound-header (checked e), omega (arith, given e .from-least, given e .from-most), given e .old-most)
+try-slot-requires c κs = let e = c .before in (header-ok (checked (e .before)), fit e .from-ok, fit e .old-ok)
 
 same-length-3 : tie.Need-same-length-3
 same-length-3 c = search needs
 
 returns-3 : tie.Need-returns-3
+unfolding lateChecks
 returns-3 c =
     let t = c .before .before in
-    let e = tried t in
-    let s = call e in
-    let a = s .args in
-    let b = t .try-slot .result .opens in
-    settled-check built (a .image .now) (called s) (sound-header (checked e)) 17 (λ q. omega arith)
-    (wrong-key (factsOf built (a .image .now)) (a .from) (a .old .now) (a .to) (a .new .now) (a .count) (a .random .now) (a .filler .now) (a .salt .now) (early-zero e) (given e .live) b (trial-is t) (not-true b (c .if3 .taken)))
+    let s = start₃ t in
+    let m = s .args .image .now in
+    does-refused built m (called s) 17
+    (step-late built m (called s) (ok₃ t) (early-zero (judged t)) 17 (λ q. omega arith)
+    (refused-by (late s) 0 tt (match-is t ∙ not-true (t .try-slot .result .opens) (c .if3 .taken))))
 
-be32-at-requires : tie.Need-be32-at-requires
-be32-at-requires c κs = let e = tried (c .before .before .before) in omega (arith, sound aesXtsSha1 (call e .args .image .now) (sound-header (checked e)) .size)
+key-bytes-requires : tie.Need-key-bytes-requires
+key-bytes-requires c κs = let t = tried (c .before) in sound (start₃ t .args .image .now) (ok₃ t) .named
 
 cast-l : tie.Need-cast-l
 cast-l c = search needs
 
 array-share-prefix-key : tie.Need-array-share-prefix-key
-array-share-prefix-key c = let p = c .before .before in omega (arith, length-most p, key-long p)
+array-share-prefix-key c =
+    let k = c .before .before in
+    let l : length (trial k .try-slot .result .key) ≡ 64 = search needs in
+    omega (arith, l, k .key-bytes .ensures .1)
 
 slice-aggregate-move-key : tie.Need-slice-aggregate-move-key
-slice-aggregate-move-key c = sym (key-length (c .before .before .before))
+slice-aggregate-move-key c = let k = c .before .before .before in k .key-bytes .ensures .0 ∙ sym (ap length (front k) ∙ candidate-length k)
 
 move-key-requires : tie.Need-move-key-requires
+unfolding keyOk
 move-key-requires c κs =
-    let p = c .before .before .before in
-    let e = tried (opened p) in
-    let g = given e in
-    (sound-header (checked e), g .from-least, g .from-most, g .to-least, g .to-most, key-length p ∙ p .be32-at .ensures, g .new-most, g .count-least, g .random-fits, g .filler-fits)
+    let k = c .before .before .before in
+    let t = trial k in
+    let g = fit (judged t) in
+    (ok₃ t, g .from-ok, g .to-ok, eq-eqb _ _ (ap length (front k) ∙ candidate-length k), g .new-ok, g .count-ok, g .random-ok, g .filler-ok)
 
 same-length-4 : tie.Need-same-length-4
 same-length-4 c = search needs
@@ -168,19 +191,16 @@ same-length-4 c = search needs
 returns-4 : tie.Need-returns-4
 unfolding answer done writes
 returns-4 c =
-    let p = c .before .before .before .before .before .before in
-    let t = opened p in
-    let e = tried t in
-    let s = call e in
+    let k = c .before .before .before .before .before .before in
+    let t = trial k in
+    let e = judged t in
+    let s = start₃ t in
     let a = s .args in
-    let f = factsOf built (a .image .now) in
-    let r = e .before .before .change-check .result in
-    let b = t .try-slot .result .opens in
-    let z : number r ≡ 0 = sym (e .before .number-of2 .ensures) ∙ e .if2 .left in
-    settled-accepted built (a .image .now) (called s) (sound-header (checked e)) (number r) _ z
-    (z ∙ all-hold f (a .from) (a .old .now) (a .to) (a .new .now) (a .count) (a .random .now) (a .filler .now) (a .salt .now) (early-zero e) (given e .live) b (trial-is t) (opened-true p)) refl
+    let m = a .image .now in
+    does-accepted built m (called s) _ (step-accepted built m (called s) (ok₃ t) (early-zero e) (late-zero (k .before .before)))
+    (number (e .before .before .change-check .result)) _ (sym (e .before .number-of2 .ensures) ∙ e .if2 .left)
     (c .before .before .move-key .ensures
-    ∙ ap (λ (k : List ℕ). written (enableWrites f (a .to) k (slotInput (a .new .now) (a .salt .now) (a .count) (a .random .now)) ++ disableWrites f (a .from) (a .filler .now)) (a .image .now)) (key-is p))
+    ∙ ap (λ (y : List ℕ). written (enableWrites (facts s) (a .to) y (input s) ++ disableWrites (facts s) (a .from) (a .filler .now)) m) (front k))
 
 pub change-spec : {M : Type 1} → statement M
 change-spec =
@@ -194,12 +214,10 @@ change-spec =
     number-of-requires-2
     same-length-2
     returns-2
-    sub-try-slot
-    cast-try-slot
     try-slot-requires
     same-length-3
     returns-3
-    be32-at-requires
+    key-bytes-requires
     cast-l
     array-share-prefix-key
     slice-aggregate-move-key

@@ -1,97 +1,131 @@
--- `changing::change_check` meets its contract: what each test has shown stands as a fact of its place, and each way out names the facts before it.
+-- `changing::change_check` meets its contract: at each place the checks before it have passed, and each way out is refused by the next.
 use mathlib.Core.Path.{_≡_, sym, _∙_}
-use mathlib.Core.Bool.{true, _&&_, not}
+use mathlib.Core.List.{List, []}
+use mathlib.Core.Bool.{true}
+use Prim.Native.Nat.{ℕ}
+use lib.ListN.{take}
 use borrow.Author.Tests.{not-true, not-false}
 use borrow.Author.Needs.{needs}
-use Rattle.rules.specs.Facts.{factsOf, slotOf, isEnabled}
-use Rattle.rules.specs.Calls.{slotNumberOk, passphraseOk, countOk}
-use Rattle.built.specs.Built.{aesXtsSha1, built}
-use Rattle.header.proofs.SoundLaws.{sound}
-use Rattle.changing.proofs.ChangeLaws.{bad-slot, wrong-state, bad-passphrase, low-count, bad-length, early-hold}
+use Rattle.octets.proofs.BoolLaws.{and-split}
+use Rattle.rules.specs.Checks.{Check}
+use Rattle.rules.specs.Facts.{slotInput}
+use Rattle.rules.specs.Calls.{change, slotNumberOk, earlyChecks}
+use Rattle.rules.proofs.ChecksLaws.{Pass, refused-by, all-pass}
+use Rattle.header.specs.Records.{factsIn}
 use Rattle.changing.proofs.change_check.Statement.{statement}
 use Rattle.changing.proofs.change_check.Tie as tie
 
--- ---- what has passed, place by place
+-- the checks of the call, with any salt
+abbrev checks : tie.Start → List ℕ → List Check
+checks s salt =
+    let a = s .args in
+    earlyChecks (factsIn (a .image .now)) (change (a .from) (a .old .now) (a .to) (slotInput (a .new .now) salt (a .count) (a .random .now)) (a .filler .now))
 
-abbrev start : tie.Else1 → tie.Start
-start c = c .before .before .before .before .before .before .before
+-- ---- places, and what has passed at each
 
-numbers : (c : tie.Else1) → (slotNumberOk (start c .args .from) && slotNumberOk (start c .args .to)) ≡ true
-numbers c = sym (c .before .numbers-ok .ensures) ∙ not-false (c .before .numbers-ok .result) (c .if1 .left)
+abbrev start₁ : tie.After-numbers-ok → tie.Start
+start₁ c = c .before .before .before .before .before .before
 
-abbrev call : tie.Else2 → tie.Start
-call c = start (c .before .before)
+abbrev start₂ : tie.After-states-ok → tie.Start
+start₂ c = start₁ (c .before .before)
 
-states : (c : tie.Else2)
-    → (isEnabled (slotOf (factsOf built (call c .args .image .now)) (call c .args .from)) && not (isEnabled (slotOf (factsOf built (call c .args .image .now)) (call c .args .to)))) ≡ true
-states c = sym (c .before .states-ok .ensures) ∙ not-false (c .before .states-ok .result) (c .if2 .left)
+abbrev start₃ : tie.After-passphrases-ok → tie.Start
+start₃ c = start₂ (c .before .before)
 
-passphrases : (c : tie.Else3) → (passphraseOk (call (c .before .before) .args .old .now) && passphraseOk (call (c .before .before) .args .new .now)) ≡ true
-passphrases c = sym (c .before .passphrases-ok .ensures) ∙ not-false (c .before .passphrases-ok .result) (c .if3 .left)
+abbrev start₄ : tie.After-count-ok → tie.Start
+start₄ c = start₃ (c .before .before)
 
-count-fits : (c : tie.Else4) → countOk (factsOf built (call (c .before .before .before .before) .args .image .now)) (call (c .before .before .before .before) .args .count) ≡ true
-count-fits c = sym (c .before .count-ok .ensures) ∙ not-false (c .before .count-ok .result) (c .if4 .left)
+abbrev start₅ : tie.After-lengths-ok → tie.Start
+start₅ c = start₄ (c .before .before)
+
+passed₁ : (c : tie.Else1) (salt : List ℕ) → Pass (take 1 (checks (start₁ (c .before)) salt))
+unfolding earlyChecks
+passed₁ c salt = let t = c .before .numbers-ok in (sym (t .ensures) ∙ not-false (t .result) (c .if1 .left), tt)
+
+numbers : (c : tie.Else1) → (slotNumberOk (start₁ (c .before) .args .from) ≡ true) × (slotNumberOk (start₁ (c .before) .args .to) ≡ true)
+unfolding earlyChecks
+numbers c = let a = start₁ (c .before) .args in and-split (slotNumberOk (a .from)) (slotNumberOk (a .to)) (passed₁ c [] .0)
+
+passed₂ : (c : tie.Else2) (salt : List ℕ) → Pass (take 2 (checks (start₂ (c .before)) salt))
+unfolding earlyChecks
+passed₂ c salt =
+    let t = c .before .states-ok in
+    let p = passed₁ (c .before .before) salt in
+    (p .0, (sym (t .ensures) ∙ not-false (t .result) (c .if2 .left), tt))
+
+passed₃ : (c : tie.Else3) (salt : List ℕ) → Pass (take 3 (checks (start₃ (c .before)) salt))
+unfolding earlyChecks
+passed₃ c salt =
+    let t = c .before .passphrases-ok in
+    let p = passed₂ (c .before .before) salt in
+    (p .0, (p .1 .0, (sym (t .ensures) ∙ not-false (t .result) (c .if3 .left), tt)))
+
+passed₄ : (c : tie.Else4) (salt : List ℕ) → Pass (take 4 (checks (start₄ (c .before)) salt))
+unfolding earlyChecks
+passed₄ c salt =
+    let t = c .before .count-ok in
+    let p = passed₃ (c .before .before) salt in
+    (p .0, (p .1 .0, (p .1 .1 .0, (sym (t .ensures) ∙ not-false (t .result) (c .if4 .left), tt))))
+
+passed₅ : (c : tie.Else5) (salt : List ℕ) → Pass (checks (start₅ (c .before)) salt)
+unfolding earlyChecks
+passed₅ c salt =
+    let t = c .before .lengths-ok in
+    let p = passed₄ (c .before .before) salt in
+    (p .0, (p .1 .0, (p .1 .1 .0, (p .1 .1 .1 .0, (sym (t .ensures) ∙ not-false (t .result) (c .if5 .left), tt)))))
+
+-- ---- needs
 
 numbers-ok-requires : tie.Need-numbers-ok-requires
 numbers-ok-requires c κs = search needs
 
 returns : tie.Need-returns
-returns c =
-    let a = c .before .before .before .before .before .before .before .args in
+unfolding earlyChecks
+returns c salt =
     let t = c .before .numbers-ok in
-    bad-slot (factsOf built (a .image .now)) (a .from) (a .old .now) (a .to) (a .new .now) (a .count) (a .random .now) (a .filler .now) (sym (t .ensures) ∙ not-true (t .result) (c .if1 .taken))
+    refused-by (checks (start₁ (c .before)) salt) 0 tt (sym (t .ensures) ∙ not-true (t .result) (c .if1 .taken))
 
 states-ok-requires : tie.Need-states-ok-requires
-states-ok-requires c κs = (sound aesXtsSha1 (start c .args .image .now) (start c .pre) .size, numbers c)
+states-ok-requires c κs = let n = numbers c in (start₁ (c .before) .pre, n .0, n .1)
 
 returns-2 : tie.Need-returns-2
-returns-2 c =
-    let n = c .before .before in
-    let a = start n .args in
+unfolding earlyChecks
+returns-2 c salt =
     let t = c .before .states-ok in
-    wrong-state (factsOf built (a .image .now)) (a .from) (a .old .now) (a .to) (a .new .now) (a .count) (a .random .now) (a .filler .now) (numbers n) (sym (t .ensures) ∙ not-true (t .result) (c .if2 .taken))
+    refused-by (checks (start₂ (c .before)) salt) 1 (passed₁ (c .before .before) salt) (sym (t .ensures) ∙ not-true (t .result) (c .if2 .taken))
 
 passphrases-ok-requires : tie.Need-passphrases-ok-requires
 passphrases-ok-requires c κs = search needs
 
 returns-3 : tie.Need-returns-3
-returns-3 c =
-    let s = c .before .before in
-    let a = call s .args in
+unfolding earlyChecks
+returns-3 c salt =
     let t = c .before .passphrases-ok in
-    bad-passphrase (factsOf built (a .image .now)) (a .from) (a .old .now) (a .to) (a .new .now) (a .count) (a .random .now) (a .filler .now) (numbers (s .before .before)) (states s) (sym (t .ensures) ∙ not-true (t .result) (c .if3 .taken))
+    refused-by (checks (start₃ (c .before)) salt) 2 (passed₂ (c .before .before) salt) (sym (t .ensures) ∙ not-true (t .result) (c .if3 .taken))
 
 count-ok-requires : tie.Need-count-ok-requires
-count-ok-requires c κs = call (c .before .before) .pre
+count-ok-requires c κs = search needs
 
 returns-4 : tie.Need-returns-4
-returns-4 c =
-    let p = c .before .before in
-    let s = p .before .before in
-    let a = call s .args in
+unfolding earlyChecks
+returns-4 c salt =
     let t = c .before .count-ok in
-    low-count (factsOf built (a .image .now)) (a .from) (a .old .now) (a .to) (a .new .now) (a .count) (a .random .now) (a .filler .now) (numbers (s .before .before)) (states s) (passphrases p) (sym (t .ensures) ∙ not-true (t .result) (c .if4 .taken))
+    refused-by (checks (start₄ (c .before)) salt) 3 (passed₃ (c .before .before) salt) (sym (t .ensures) ∙ not-true (t .result) (c .if4 .taken))
 
 lengths-ok-requires : tie.Need-lengths-ok-requires
-lengths-ok-requires c κs = let s = c .before .before .before .before in (call s .pre, numbers (s .before .before))
+lengths-ok-requires c κs =
+    let s = c .before .before .before .before in
+    let n = numbers (s .before .before) in
+    (start₂ (s .before) .pre, n .0, n .1)
 
 returns-5 : tie.Need-returns-5
-returns-5 c =
-    let n = c .before .before in
-    let p = n .before .before in
-    let s = p .before .before in
-    let a = call s .args in
+unfolding earlyChecks
+returns-5 c salt =
     let t = c .before .lengths-ok in
-    bad-length (factsOf built (a .image .now)) (a .from) (a .old .now) (a .to) (a .new .now) (a .count) (a .random .now) (a .filler .now) (numbers (s .before .before)) (states s) (passphrases p) (count-fits n) (sym (t .ensures) ∙ not-true (t .result) (c .if5 .taken))
+    refused-by (checks (start₅ (c .before)) salt) 4 (passed₄ (c .before .before) salt) (sym (t .ensures) ∙ not-true (t .result) (c .if5 .taken))
 
 returns-6 : tie.Need-returns-6
-returns-6 c =
-    let n = c .before .before in
-    let p = n .before .before in
-    let s = p .before .before in
-    let a = call s .args in
-    let t = c .before .lengths-ok in
-    early-hold (factsOf built (a .image .now)) (a .from) (a .old .now) (a .to) (a .new .now) (a .count) (a .random .now) (a .filler .now) (numbers (s .before .before)) (states s) (passphrases p) (count-fits n) (sym (t .ensures) ∙ not-false (t .result) (c .if5 .left))
+returns-6 c salt = all-pass (checks (start₅ (c .before)) salt) (passed₅ c salt)
 
 pub change-check-spec : {M : Type 1} → statement M
 change-check-spec =

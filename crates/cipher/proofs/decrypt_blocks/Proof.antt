@@ -1,10 +1,9 @@
 -- `cipher::decrypt_blocks` meets its contract.
 use mathlib.Core.Path.{_≡_, refl}
 use mathlib.Core.List.{List}
-use Prim.Native.Nat.{ℕ, _+_, _-_, _*_, _≤_, _<_}
+use Prim.Native.Nat.{ℕ, _+_, _≤_, _<_}
 use native.Mathlib.Omega.{arith}
-use lib.ListN.{length, take, drop}
-use Rattle.octets.specs.Octets.{xors}
+use lib.ListN.{length}
 use Rattle.aes.specs.Planes.{state, Sliced}
 use Rattle.cipher.proofs.RoundLaws.{undone, inv-again, decrypted}
 use borrow.Author.Needs.{needs}

@@ -1,9 +1,9 @@
 -- `cipher::encrypt_blocks` meets its contract.
 use mathlib.Core.Path.{_≡_, refl}
 use mathlib.Core.List.{List}
-use Prim.Native.Nat.{ℕ, _+_, _-_, _*_, _≤_, _<_}
+use Prim.Native.Nat.{ℕ, _+_, _-_, _≤_, _<_}
 use native.Mathlib.Omega.{arith}
-use lib.ListN.{length, take, drop}
+use lib.ListN.{length}
 use Rattle.octets.specs.Octets.{xors}
 use Rattle.aes.specs.Aes.{roundKey, rounds}
 use Rattle.aes.specs.Planes.{state, Sliced}

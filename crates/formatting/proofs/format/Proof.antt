@@ -1,11 +1,29 @@
 -- `formatting::format` meets its contract.
-use mathlib.Core.Path.{sym, _∙_}
+use mathlib.Core.Path.{_≡_, refl, sym, _∙_}
+use mathlib.Core.Bool.{true, false}
+use borrow.Author.Tests.{eq-eqb, ne-eqb}
 use borrow.Author.Needs.{needs}
-use Rattle.formatting.specs.Input.{formatInput}
+use Rattle.rules.specs.Checks.{first}
+use Rattle.rules.specs.Format.{FormatInput, formatInput, formatChecks}
+use Rattle.profiles.specs.Suites.{built}
 use Rattle.header.specs.Refusals.{number}
-use Rattle.formatting.proofs.FormatLaws.{format-refused, format-accepted}
+use Rattle.formatting.proofs.FormatLaws.{settled}
 use Rattle.formatting.proofs.format.Statement.{statement}
 use Rattle.formatting.proofs.format.Tie as tie
+
+-- ---- the call, its arguments, and its number
+
+abbrev start : tie.After-format-check → tie.Start
+start c = c .before .before .before .before .before
+
+abbrev input : tie.Start → FormatInput
+input z = let a = z .args in formatInput (a .profile) (a .stripes) (a .key .now) (a .salt .now) (a .count) (a .uuid .now)
+
+number-is : (c : tie.After-format-check) → number (c .format-check .result) ≡ first (formatChecks built (input (start c)) (start c .args .image .now))
+number-is c = c .format-check .ensures (start c .args .salt .now)
+
+accepted : (c : tie.Else1) → number (c .before .before .format-check .result) ≡ 0
+accepted c = sym (c .before .number-of .ensures) ∙ c .if1 .left
 
 format-check-requires : tie.Need-format-check-requires
 format-check-requires c κs = search needs
@@ -18,18 +36,11 @@ same-length c = search needs
 
 returns : tie.Need-returns
 returns c =
-    let r = c .before .before in
-    let z = r .before .before .before .before .before in
-    let a = z .args in
-    format-refused (a .image .now) (formatInput (a .profile) (a .stripes) (a .key .now) (a .salt .now) (a .count) (a .uuid .now)) (number (r .format-check .result))
-    (λ e. c .if1 .taken (c .before .number-of .ensures ∙ e)) (r .format-check .ensures (a .salt .now))
+    let p = c .before .before in
+    settled (input (start p)) _ _ false _ (number-is p) (ne-eqb _ _ (λ e. c .if1 .taken (c .before .number-of .ensures ∙ e))) refl
 
 write-drive-requires : tie.Need-write-drive-requires
-write-drive-requires c κs =
-    let e = c .before in
-    let r = e .before .before in
-    let z = r .before .before .before .before .before in
-    sym (r .format-check .ensures (z .args .salt .now)) ∙ sym (e .before .number-of .ensures) ∙ e .if1 .left
+write-drive-requires c κs = sym (number-is (c .before .before .before)) ∙ accepted (c .before)
 
 same-length-2 : tie.Need-same-length-2
 same-length-2 c = search needs
@@ -38,11 +49,8 @@ returns-2 : tie.Need-returns-2
 returns-2 c =
     let w = c .before .before in
     let e = w .before .before in
-    let r = e .before .before in
-    let z = r .before .before .before .before .before in
-    let a = z .args in
-    format-accepted (a .image .now) (formatInput (a .profile) (a .stripes) (a .key .now) (a .salt .now) (a .count) (a .uuid .now)) (number (r .format-check .result)) _
-    (sym (e .before .number-of .ensures) ∙ e .if1 .left) (r .format-check .ensures (a .salt .now)) (w .write-drive .ensures)
+    let p = e .before .before in
+    settled (input (start p)) _ _ true _ (number-is p) (eq-eqb _ _ (accepted e)) (w .write-drive .ensures)
 
 pub format-spec : {M : Type 1} → statement M
 format-spec =

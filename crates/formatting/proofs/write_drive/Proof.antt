@@ -5,15 +5,29 @@ use native.Mathlib.Omega.{arith}
 use lib.ListN.{length}
 use lib.Seq.{length-take-le}
 use borrow.Author.Needs.{needs}
+use Rattle.rules.specs.Format.{FormatInput, formatInput}
 use Rattle.formatting.proofs.FormatLaws.{Fit, fit, drive-written}
 use Rattle.formatting.proofs.write_drive.Statement.{statement}
 use Rattle.formatting.proofs.write_drive.Tie as tie
 
-fits : (s : tie.Start) → Fit (s .args .image .now) (s .args .profile) (s .args .stripes) (s .args .key .now) (s .args .count) (s .args .uuid .now)
-fits s = fit (s .args .image .now) (s .args .profile) (s .args .stripes) (s .args .key .now) (s .args .salt .now) (s .args .count) (s .args .uuid .now) (s .pre)
+-- ---- places, from the last back
 
-room : (c : tie.After-payload-start) → c .payload-start .result .0 * 512 ≤ length (c .before .before .before .before .args .image .now)
-room c = omega (arith, c .payload-start .ensures .0, fits (c .before .before .before .before) .payload-ends)
+abbrev laid : tie.After-clear → tie.After-payload-start
+laid c = c .before .before .before
+
+abbrev start : tie.After-payload-start → tie.Start
+start c = c .before .before .before .before
+
+abbrev input : tie.Start → FormatInput
+input z = let a = z .args in formatInput (a .profile) (a .stripes) (a .key .now) (a .salt .now) (a .count) (a .uuid .now)
+
+-- ---- what holds there
+
+fits : (z : tie.Start) → Fit (input z) (z .args .image .now)
+fits z = fit (input z) (z .args .image .now) (z .pre)
+
+room : (c : tie.After-payload-start) → c .payload-start .result .0 * 512 ≤ length (start c .args .image .now)
+room c = omega (arith, c .payload-start .ensures .0, fits (start c) .payload-ends)
 
 cast-payload-start : tie.Need-cast-payload-start
 cast-payload-start c = omega (arith, fits (c .before .before .before) .key-most)
@@ -28,22 +42,24 @@ mul-end : tie.Need-mul-end
 mul-end c = search needs
 
 slice-relend-prefix-clear : tie.Need-slice-relend-prefix-clear
-slice-relend-prefix-clear c = room (c .before)
+slice-relend-prefix-clear c = omega (arith, room (c .before))
 
 slice-aggregate-clear : tie.Need-slice-aggregate-clear
-slice-aggregate-clear c = sym (length-take-le _ _ (room (c .before .before)))
+slice-aggregate-clear c = sym (length-take-le _ _ (slice-relend-prefix-clear (c .before)))
 
 clear-requires : tie.Need-clear-requires
 clear-requires c κs = search needs
 
 header-of-requires : tie.Need-header-of-requires
-header-of-requires c κs = let f = fits (c .before .before .before .before .before .before .before .before .before) in (f .profile-known, f .stripes-most, f .key-most, f .count-least, f .uuid-is)
+header-of-requires c κs =
+    let f = fits (start (laid (c .before .before))) in
+    (f .profile-known, f .stripes-most, f .key-most, f .count-least, f .uuid-is)
 
 slice-aggregate-copy-into : tie.Need-slice-aggregate-copy-into
 slice-aggregate-copy-into c = search needs
 
 copy-into-requires : tie.Need-copy-into-requires
-copy-into-requires c κs = omega (arith, fits (c .before .before .before .before .before .before .before .before .before .before .before .before) .size)
+copy-into-requires c κs = omega (arith, fits (start (laid (c .before .before .before .before .before))) .size)
 
 same-length : tie.Need-same-length
 same-length c = search needs
@@ -53,11 +69,10 @@ returns c =
     let w = c .before .before in
     let h = w .before .before .before in
     let e = h .before .before .before in
-    let p = e .before .before .before in
-    let z = p .before .before .before .before in
-    let a = z .args in
-    drive-written (a .image .now) (a .profile) (a .stripes) (a .key .now) (a .salt .now) (a .count) (a .uuid .now) (fits z)
-    (p .payload-start .result .0) (e .clear .last .0) _ _ (p .payload-start .ensures .0) (e .clear .ensures) (h .header-of .ensures) (w .copy-into .ensures)
+    let p = laid e in
+    let z = start p in
+    drive-written (input z) (z .args .image .now) (fits z) (p .payload-start .result .0) (e .clear .last .0) _ _
+    (p .payload-start .ensures .0) (e .clear .ensures) (h .header-of .ensures) (w .copy-into .ensures)
 
 pub write-drive-spec : {M : Type 1} → statement M
 write-drive-spec =

@@ -2,10 +2,10 @@
 use mathlib.Core.Path.{sym, ap, _∙_}
 use borrow.Author.Needs.{needs}
 use Rattle.sha1.specs.Sha1.{sha1}
-use Rattle.hmac.specs.Hmac.{zeroPad}
 use Rattle.hmac.proofs.HmacLaws.{keyBlock-long, keyBlock-short}
 use Rattle.hmac.proofs.key_block.Statement.{statement}
 use Rattle.hmac.proofs.key_block.Tie as tie
+use Rattle.octets.specs.Octets.{padded}
 
 sha1-requires : tie.Need-sha1-requires
 sha1-requires c κs = search needs
@@ -22,7 +22,7 @@ zero-pad-requires-2 c κs = search needs
 returns : tie.Need-returns
 returns c =
     let k = c .before .before .before .before .before .args .key .now in
-    c .zero-pad .ensures ∙ ap (zeroPad 64) (c .before .before .sha1 .ensures) ∙ sym (keyBlock-long sha1 k (c .before .before .before .if1 .taken))
+    c .zero-pad .ensures ∙ ap (padded 64) (c .before .before .sha1 .ensures) ∙ sym (keyBlock-long sha1 k (c .before .before .before .if1 .taken))
 
 returns-2 : tie.Need-returns-2
 returns-2 c =

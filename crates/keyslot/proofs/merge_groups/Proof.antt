@@ -7,8 +7,8 @@ use native.Mathlib.Nat.{mul-le-mul-right}
 use native.Mathlib.Omega.{arith}
 use lib.ListN.{length, take, drop, length-replicate}
 use lib.Seq.{length-take-le}
-use Rattle.octets.specs.Splice.{slice}
-use Rattle.octets.proofs.SpliceLaws.{length-slice}
+use Rattle.octets.specs.Splice.{part}
+use Rattle.octets.proofs.SpliceLaws.{length-part}
 use Rattle.sha1.specs.Sha1.{sha1}
 use Rattle.suite.specs.Split.{mergeFrom}
 use Rattle.suite.specs.Units.{inUnits}
@@ -65,13 +65,13 @@ part-whole-group-end : tie.Need-part-whole-group-end Inv-loop μ-loop
 part-whole-group-end c = search needs
 
 whole-group-requires : tie.Need-whole-group-requires Inv-loop μ-loop
-unfolding slice
+unfolding part
 whole-group-requires c κs =
     let w = c .before .before .before .before in
     let l = w .loop in
     let s = w .before .before .before .before .before .before .before .before .before .before in
     let x = take (l .at + 16384 - l .at) (drop (l .at) (s .args .area .now)) in
-    let k : length x ≡ l .at + 16384 - l .at = length-slice (s .args .area .now) (l .at) (l .at + 16384 - l .at) (omega arith) in
+    let k : length x ≡ l .at + 16384 - l .at = length-part (s .args .area .now) (l .at) (l .at + 16384 - l .at) (omega arith) in
     let n : length x ≡ 16384 = k ∙ omega arith in
     let p = w .before .per-group in
     (l .inv .5 ∙ sym n, omega (arith, n), omega (arith, n), s .pre .5, s .pre .6, n ∙ sym (ap (λ (j : ℕ). p .result * j) (l .inv .4) ∙ p .ensures), omega arith)
@@ -86,7 +86,7 @@ loop-less : tie.Need-loop-less Inv-loop μ-loop
 loop-less c = search needs
 
 loop-again : tie.Need-loop-again Inv-loop μ-loop
-unfolding slice
+unfolding part
 loop-again c =
     let w = c .before .before .before .before .before .before .before .before in
     let l = w .loop in
@@ -96,7 +96,7 @@ loop-again c =
     let a = w .before .before .before .before .before .before .before .before .before .before .args in
     let h : p .result < l .left = more-left L (p .result) (l .left) (p .ensures) (omega arith) in
     let x = take (l .at + 16384 - l .at) (drop (l .at) (a .area .now)) in
-    let k : length x ≡ 16384 = length-slice (a .area .now) (l .at) (l .at + 16384 - l .at) (omega arith) ∙ omega arith in
+    let k : length x ≡ 16384 = length-part (a .area .now) (l .at) (l .at + 16384 - l .at) (omega arith) ∙ omega arith in
     let y = c .before .before .before .whole-group in (
       omega arith,
       omega arith,
@@ -134,14 +134,14 @@ sub-last-group-2 : tie.Need-sub-last-group-2 Inv-loop μ-loop
 sub-last-group-2 c = search needs
 
 last-group-requires : tie.Need-last-group-requires Inv-loop μ-loop
-unfolding slice
+unfolding part
 last-group-requires c κs =
     let w = c .before .before .before .before in
     let l = w .loop in
     let s = w .before .before .before .before .before .before .before .before .before .before in
     let N = length (s .args .area .now) in
     let j : length (l .b) ≡ 16384 = l .inv .5 in
-    let k : length (take (N - l .at) (drop (l .at) (s .args .area .now))) ≡ N - l .at = length-slice (s .args .area .now) (l .at) (N - l .at) (omega arith) in
+    let k : length (take (N - l .at) (drop (l .at) (s .args .area .now))) ≡ N - l .at = length-part (s .args .area .now) (l .at) (N - l .at) (omega arith) in
     let b : (l .left - 1) * length (l .d) + length (l .d) ≡ N - l .at = last-stripe (l .left) (length (l .d)) (l .inv .2) ∙ ap (λ (n : ℕ). l .left * n) (l .inv .4) ∙ l .inv .3 in
     let m : N % 16 ≡ 0 = whole-blocks (s .args .n) (length (s .args .d .now)) N (s .pre .1) (s .pre .4) in
     (length-take-le (N - l .at) (l .b) (omega arith) ∙ sym k, omega (arith, k, m), omega (arith, k), s .pre .5, s .pre .6, k ∙ sym b, omega arith)

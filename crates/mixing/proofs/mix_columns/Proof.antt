@@ -1,6 +1,6 @@
 -- `mixing::mix_columns` meets its contract.
 use mathlib.Core.Path.{_≡_}
-use Prim.Native.Nat.{_+_, _-_, _≤_, _<_}
+use Prim.Native.Nat.{_-_, _≤_, _<_}
 use native.Mathlib.Omega.{arith}
 use Rattle.aes.specs.Columns.{mixOf}
 use Rattle.aes.proofs.PlaneLaws.{each-mix}

@@ -1,6 +1,6 @@
 -- `mixing::premix_columns` meets its contract.
 use mathlib.Core.Path.{_≡_}
-use Prim.Native.Nat.{_+_, _-_, _≤_, _<_}
+use Prim.Native.Nat.{_-_, _≤_, _<_}
 use native.Mathlib.Omega.{arith}
 use Rattle.aes.specs.Columns.{premixOf}
 use Rattle.aes.proofs.PremixLaws.{each-premix}

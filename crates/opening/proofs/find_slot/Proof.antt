@@ -1,57 +1,82 @@
--- `opening::find_slot` meets its contract.
-use mathlib.Core.Path.{_≡_, refl, sym, _∙_}
-use Prim.Native.Nat.{_+_, _-_, _≤_}
+-- `opening::find_slot` meets its contract: the search from the next slot on has the whole search's answer.
+use mathlib.Core.Path.{_≡_, refl, sym, ap, _∙_}
+use Prim.Native.Nat.{ℕ, _-_, _≤_}
 use native.Mathlib.Omega.{arith}
+use lib.Dec.{ltb}
+use borrow.Author.Tests.{le-leb, lt-ltb}
 use borrow.Author.Needs.{needs}
-use Rattle.rules.specs.Facts.{factsOf}
+use Rattle.octets.specs.Octets.{padded}
+use Rattle.octets.proofs.BoolLaws.{no}
+use Rattle.rules.specs.Facts.{candidate}
 use Rattle.rules.specs.Calls.{seek}
-use Rattle.built.specs.Built.{built}
+use Rattle.rules.proofs.ArgumentLaws.{number-is}
+use Rattle.header.specs.Records.{factsIn}
 use Rattle.opening.proofs.OpenLaws.{seek-hit, seek-miss, seek-none}
 use Rattle.opening.proofs.find_slot.Statement.{statement}
 use Rattle.opening.proofs.find_slot.Tie as tie
 
 abbrev Inv-loop : tie.InvT-loop
-Inv-loop image passphrase key₀ k₀ key k = (k ≤ 8) × (seek (factsOf built image) passphrase (k + 1) (8 - k) ≡ seek (factsOf built image) passphrase 1 8)
+Inv-loop image passphrase key₀ slot₀ key slot =
+    (1 ≤ slot) × (slot ≤ 9) × (seek (factsIn image) passphrase slot (9 - slot) ≡ seek (factsIn image) passphrase 1 8)
 
 abbrev μ-loop : tie.MeasureT-loop
-μ-loop image passphrase key₀ k₀ key k = 8 - k
+μ-loop image passphrase key₀ slot₀ key slot = 9 - slot
+
+-- ---- places
+
+abbrev start : tie.Else1 Inv-loop μ-loop → tie.Start Inv-loop μ-loop
+start c = c .before .before .before .before
+
+abbrev slot-of : tie.Else1 Inv-loop μ-loop → ℕ
+slot-of c = c .before .loop .slot
+
+in-range : (c : tie.Else1 Inv-loop μ-loop) → slot-of c ≤ 8
+in-range c = let i = c .before .loop .inv in omega arith
+
+-- ---- needs
 
 loop-holds : tie.Need-loop-holds Inv-loop μ-loop
-loop-holds c = (omega arith, refl)
+loop-holds c = (omega arith, omega arith, refl)
 
 try-slot-requires : tie.Need-try-slot-requires Inv-loop μ-loop
-try-slot-requires c κs = (c .before .before .before .before .pre .0, omega arith, c .before .before .before .before .pre .1)
+try-slot-requires c κs =
+    let k = slot-of c in
+    (start c .pre .0, sym (number-is k (c .before .loop .inv .0)) ∙ le-leb k 8 (in-range c), start c .pre .1)
 
-add-k : tie.Need-add-k Inv-loop μ-loop
-add-k c = search needs
+add-slot : tie.Need-add-slot Inv-loop μ-loop
+add-slot c = search needs
 
 loop-less : tie.Need-loop-less Inv-loop μ-loop
 loop-less c = search needs
 
 loop-again : tie.Need-loop-again Inv-loop μ-loop
 loop-again c =
-    let a = c .before .before .before .before .before .before .before .args in
-    let l = c .before .before .before .before .loop in
     let t = c .before .before .try-slot in
-    (omega arith, seek-miss (factsOf built (a .image .now)) (a .passphrase .now) (l .k) _ (l .inv .1) (omega arith) (sym (t .ensures .opens-is) ∙ c .if2 .left))
+    let e = c .before .before .before in
+    let a = start e .args in
+    let i = e .before .loop .inv in
+    let k = in-range e in
+    (omega arith, omega arith, seek-miss (factsIn (a .image .now)) (a .passphrase .now) (slot-of e) _ (i .2) k (sym (t .ensures .opens-is) ∙ c .if2 .left))
 
 returns : tie.Need-returns Inv-loop μ-loop
 returns c =
     let a = c .before .before .before .before .args in
     let l = c .before .loop in
-    record {
-      slot-is = seek-none (factsOf built (a .image .now)) (a .passphrase .now) (l .k) _ (l .inv .1) (c .if1 .taken);
-      key-is = λ q. absurd (omega arith);
-    }
+    let n = seek-none (factsIn (a .image .now)) (a .passphrase .now) (l .slot) _ (l .inv .2) (c .if1 .taken) in
+    record { any-is = ap (ltb 0) n; slot-is = n; key-is = λ q. no q }
 
 returns-2 : tie.Need-returns-2 Inv-loop μ-loop
 returns-2 c =
-    let a = c .before .before .before .before .before .before .before .args in
-    let l = c .before .before .before .before .loop in
     let t = c .before .before .try-slot in
+    let e = c .before .before .before in
+    let a = start e .args in
+    let i = e .before .loop .inv in
+    let f = factsIn (a .image .now) in
+    let n = seek-hit f (a .passphrase .now) (slot-of e) _ (i .2) (in-range e) (sym (t .ensures .opens-is) ∙ c .if2 .taken) in
     record {
-      slot-is = seek-hit (factsOf built (a .image .now)) (a .passphrase .now) (l .k) _ (l .inv .1) (omega arith) (sym (t .ensures .opens-is) ∙ c .if2 .taken);
-      key-is = λ q. t .ensures .key-is (c .if2 .taken);
+      any-is = sym (lt-ltb 0 (slot-of e) (i .0)) ∙ ap (ltb 0) n;
+      slot-is = n;
+      key-is = λ q. t .ensures .key-is (c .if2 .taken) ∙ ap (λ (k : ℕ). padded 64 (candidate f k (a .passphrase .now))) n;
     }
 
 pub find-slot-spec : {M : Type 1} → statement M
@@ -62,7 +87,7 @@ find-slot-spec =
     μ-loop
     loop-holds
     try-slot-requires
-    add-k
+    add-slot
     loop-less
     loop-again
     returns

@@ -1,18 +1,48 @@
--- `opening::open` meets its contract.
+-- `opening::open` meets its contract: header, then the passphrase, then the search.
 use mathlib.Core.Path.{_≡_, refl, sym, ap, _∙_}
-use Prim.Native.Nat.{ℕ, _+_, _≤_}
+use mathlib.Core.Bool.{true}
 use native.Mathlib.Omega.{arith}
 use borrow.Author.Tests.{not-true, not-false}
 use borrow.Author.Needs.{needs}
-use Rattle.rules.specs.Facts.{factsOf}
-use Rattle.rules.specs.Calls.{openAny, seek}
-use Rattle.built.specs.Built.{aesXtsSha1, built}
+use Rattle.rules.specs.Checks.{first}
+use Rattle.rules.specs.Facts.{Facts}
+use Rattle.rules.specs.Calls.{Call, openAny, passphraseOk, earlyChecks, lateChecks, answer, opened}
+use Rattle.rules.proofs.ChecksLaws.{refused-by, first-pass}
+use Rattle.rules.proofs.StepLaws.{step-header, step-early, step-late, step-accepted, opens-as}
+use Rattle.profiles.specs.Suites.{built}
+use Rattle.header.specs.Refusals.{number}
+use Rattle.header.specs.Records.{factsIn, HeaderOk}
 use Rattle.header.proofs.SoundLaws.{sound}
-use Rattle.opening.specs.Opening.{keyOf, slotFound}
-use Rattle.rules.proofs.ArgumentLaws.{passphrase-in}
-use Rattle.opening.proofs.OpenLaws.{refused-header, refused-check, no-key-any, seek-most, any-bad-passphrase, any-wrong-key, any-opened}
+use Rattle.opening.specs.Opening.{isAny, slotFound}
+use Rattle.opening.proofs.OpenLaws.{no-key-any, opens-refused}
 use Rattle.opening.proofs.open.Statement.{statement}
 use Rattle.opening.proofs.open.Tie as tie
+
+-- ---- places
+
+abbrev at-1 : tie.Else1 → tie.Start
+at-1 c = c .before .before .before .before .before
+
+abbrev at-2 : tie.Else2 → tie.Else1
+at-2 c = c .before .before
+
+abbrev facts : tie.Start → Facts
+facts s = factsIn (s .args .image .now)
+
+abbrev call : tie.Start → Call
+call s = openAny (s .args .passphrase .now)
+
+header-ok : (c : tie.Else1) → HeaderOk (at-1 c .args .image .now)
+header-ok c = sym (c .before .before .header-check .ensures) ∙ sym (c .before .number-of .ensures) ∙ c .if1 .left
+
+passphrase-ok : (c : tie.Else2) → passphraseOk (at-1 (at-2 c) .args .passphrase .now) ≡ true
+passphrase-ok c = sym (c .before .passphrase-ok .ensures) ∙ not-false (c .before .passphrase-ok .result) (c .if2 .left)
+
+early-ok : (c : tie.Else2) → let s = at-1 (at-2 c) in first (earlyChecks (facts s) (call s)) ≡ 0
+unfolding earlyChecks
+early-ok c = let s = at-1 (at-2 c) in first-pass (earlyChecks (facts s) (call s)) (passphrase-ok c, tt)
+
+-- ---- needs
 
 header-check-requires : tie.Need-header-check-requires
 header-check-requires c κs = search needs
@@ -25,9 +55,12 @@ refused-requires c κs = search needs
 
 returns : tie.Need-returns
 returns c =
-    let a = c .before .before .before .before .before .before .args in
-    refused-header (a .image .now) (openAny (a .passphrase .now)) (no-key-any (a .passphrase .now)) (c .before .before .before .header-check .result) _ (c .refused .ensures)
-    (λ q. c .before .if1 .taken (c .before .before .number-of .ensures ∙ q)) (c .before .before .before .header-check .ensures aesXtsSha1)
+    let e = c .before in
+    let h = e .before .before .header-check in
+    let s = e .before .before .before .before .before in
+    let m = s .args .image .now in
+    opens-refused m (call s) (no-key-any (s .args .passphrase .now)) (c .refused .ensures)
+    (step-header built m (call s) (number (h .result)) (λ q. e .if1 .taken (e .before .number-of .ensures ∙ q)) (h .ensures))
 
 passphrase-ok-requires : tie.Need-passphrase-ok-requires
 passphrase-ok-requires c κs = search needs
@@ -36,13 +69,18 @@ refused-requires-2 : tie.Need-refused-requires-2
 refused-requires-2 c κs = search needs
 
 returns-2 : tie.Need-returns-2
+unfolding earlyChecks
 returns-2 c =
-    let a = c .before .before .before .before .before .before .before .before .args in
-    refused-check (a .image .now) (openAny (a .passphrase .now)) (no-key-any (a .passphrase .now)) _ _ (c .refused2 .ensures) (sym (c .before .before .before .before .before .header-check .ensures aesXtsSha1) ∙ sym (c .before .before .before .before .number-of .ensures) ∙ c .before .before .before .if1 .left) (λ q. omega arith)
-    (any-bad-passphrase (a .image .now) (a .passphrase .now) (sym (c .before .before .passphrase-ok .ensures) ∙ not-true (c .before .before .passphrase-ok .result) (c .before .if2 .taken)))
+    let t = c .before .before .passphrase-ok in
+    let p = c .before .before .before in
+    let s = at-1 p in
+    let m = s .args .image .now in
+    let bad = sym (t .ensures) ∙ not-true (t .result) (c .before .if2 .taken) in
+    opens-refused m (call s) (no-key-any (s .args .passphrase .now)) (c .refused2 .ensures)
+    (step-early built m (call s) (header-ok p) 14 (λ q. omega arith) (refused-by (earlyChecks (facts s) (call s)) 0 tt bad))
 
 find-slot-requires : tie.Need-find-slot-requires
-find-slot-requires c κs = ((sym (c .before .before .before .before .header-check .ensures aesXtsSha1) ∙ sym (c .before .before .before .number-of .ensures) ∙ c .before .before .if1 .left), passphrase-in (c .before .before .before .before .before .before .before .args .passphrase .now) (sym (c .before .passphrase-ok .ensures) ∙ not-false (c .before .passphrase-ok .result) (c .if2 .left)) .1)
+find-slot-requires c κs = (header-ok (at-2 c), passphrase-ok c)
 
 enum-known-found : tie.Need-enum-known-found
 enum-known-found c = search needs
@@ -54,48 +92,36 @@ refused-requires-3 : tie.Need-refused-requires-3
 refused-requires-3 c κs = search needs
 
 returns-3 : tie.Need-returns-3
+unfolding lateChecks
 returns-3 c =
-    let a = c .before .before .before .before .before .before .before .before .before .before .before .args in
-    refused-check (a .image .now) (openAny (a .passphrase .now)) (no-key-any (a .passphrase .now)) _ _ (c .refused3 .ensures) (sym (c .before .before .before .before .before .before .before .before .header-check .ensures aesXtsSha1) ∙ sym (c .before .before .before .before .before .before .before .number-of .ensures) ∙ c .before .before .before .before .before .before .if1 .left) (λ q. omega arith)
-    (any-wrong-key (a .image .now) (a .passphrase .now) (sym (c .before .before .before .before .before .passphrase-ok .ensures) ∙ not-false (c .before .before .before .before .before .passphrase-ok .result) (c .before .before .before .before .if2 .left)) (sym (ap slotFound (c .before .enum-told .given .1)) ∙ c .before .before .before .find-slot .ensures .slot-is))
+    let t = c .before .before .before in
+    let e = t .before in
+    let s = at-1 (at-2 e) in
+    let m = s .args .image .now in
+    let none = sym (t .find-slot .ensures .any-is) ∙ ap isAny (c .before .enum-told .given .1) in
+    opens-refused m (call s) (no-key-any (s .args .passphrase .now)) (c .refused3 .ensures)
+    (step-late built m (call s) (header-ok (at-2 e)) (early-ok e) 17 (λ q. omega arith) (refused-by (lateChecks (facts s) (call s)) 0 tt none))
 
-add-t14 : tie.Need-add-t14
-add-t14 c =
-    let m = c .before .before .before .before .before .before .before .before .before .before .before .before .args .image .now in
-    let p = c .before .before .before .before .before .before .before .before .before .before .before .before .args .passphrase .now in
-    let k = c .before .before .found .given .0 .0 in
-    let e : k + 1 ≡ seek (factsOf built m) p 1 8 = sym (ap slotFound (c .before .before .found .given .1)) ∙ c .before .before .before .before .find-slot .ensures .slot-is in
-    let b = seek-most (factsOf built m) p 1 8 (omega arith) in
-    omega arith
+key-bytes-requires : tie.Need-key-bytes-requires
+key-bytes-requires c κs =
+    let p = at-2 (c .before .before .before .before .before) in
+    sound (at-1 p .args .image .now) (header-ok p) .named
 
 cast-t8 : tie.Need-cast-t8
-cast-t8 c =
-    let m = c .before .before .before .before .before .before .before .before .before .before .before .before .args .image .now in
-    let p = c .before .before .before .before .before .before .before .before .before .before .before .before .args .passphrase .now in
-    let k = c .before .before .found .given .0 .0 in
-    let e : k + 1 ≡ seek (factsOf built m) p 1 8 = sym (ap slotFound (c .before .before .found .given .1)) ∙ c .before .before .before .before .find-slot .ensures .slot-is in
-    let b = seek-most (factsOf built m) p 1 8 (omega arith) in
-    omega arith
-
-be32-at-requires : tie.Need-be32-at-requires
-be32-at-requires c κs = omega (arith, sound aesXtsSha1 (c .before .before .before .before .before .before .before .before .before .before .before .before .args .image .now) (sym (c .before .before .before .before .before .before .before .before .before .header-check .ensures aesXtsSha1) ∙ sym (c .before .before .before .before .before .before .before .before .number-of .ensures) ∙ c .before .before .before .before .before .before .before .if1 .left) .size)
-
-cast-t16 : tie.Need-cast-t16
-cast-t16 c =
-    let s = sound aesXtsSha1 (c .before .before .before .before .before .before .before .before .before .before .before .before .before .args .image .now) (sym (c .before .before .before .before .before .before .before .before .before .before .header-check .ensures aesXtsSha1) ∙ sym (c .before .before .before .before .before .before .before .before .before .number-of .ensures) ∙ c .before .before .before .before .before .before .before .before .if1 .left) in
-    let h : c .be32-at .result ≤ 64 = omega (arith, c .be32-at .ensures, s .row .most) in
-    search needs
+cast-t8 c = search needs
 
 returns-4 : tie.Need-returns-4
+unfolding lateChecks answer opened
 returns-4 c =
-    let m = c .before .before .before .before .before .before .before .before .before .before .before .before .before .args .image .now in
-    let p = c .before .before .before .before .before .before .before .before .before .before .before .before .before .args .passphrase .now in
-    let k = c .before .before .before .found .given .0 .0 in
-    let e : k + 1 ≡ seek (factsOf built m) p 1 8 = sym (ap slotFound (c .before .before .before .found .given .1)) ∙ c .before .before .before .before .before .find-slot .ensures .slot-is in
-    let b = seek-most (factsOf built m) p 1 8 (omega arith) in
-    let q = ap slotFound (c .before .before .before .found .given .1) in
-    any-opened m p (sym (c .before .before .before .before .before .before .before .before .before .before .header-check .ensures aesXtsSha1) ∙ sym (c .before .before .before .before .before .before .before .before .before .number-of .ensures) ∙ c .before .before .before .before .before .before .before .before .if1 .left) (sym (c .before .before .before .before .before .before .before .passphrase-ok .ensures) ∙ not-false (c .before .before .before .before .before .before .before .passphrase-ok .result) (c .before .before .before .before .before .before .if2 .left)) k e _ refl refl (c .be32-at .ensures)
-    (c .before .before .before .before .before .find-slot .ensures .key-is (omega (arith, q)) ∙ ap (λ (j : ℕ). keyOf (factsOf built m) j p) q)
+    let found = c .before .before .before .found .given .1 in
+    let t = c .before .before .before .before .before in
+    let e = t .before in
+    let s = at-1 (at-2 e) in
+    let m = s .args .image .now in
+    let r = t .find-slot .ensures in
+    let late = first-pass (lateChecks (facts s) (call s)) (sym (r .any-is) ∙ ap isAny found, tt) in
+    opens-as built m (call s) _ (step-accepted built m (call s) (header-ok (at-2 e)) (early-ok e) late) _ _ _ _
+    refl (sym (ap slotFound found) ∙ r .slot-is) (c .key-bytes .ensures .0) (r .key-is (ap isAny found))
 
 pub open-spec : {M : Type 1} → statement M
 open-spec =
@@ -113,8 +139,6 @@ open-spec =
     enum-told
     refused-requires-3
     returns-3
-    add-t14
+    key-bytes-requires
     cast-t8
-    be32-at-requires
-    cast-t16
     returns-4)

@@ -1,18 +1,53 @@
--- `opening::open_slot` meets its contract.
-use mathlib.Core.Path.{_≡_, refl, sym, ap, _∙_}
-use Prim.Native.Nat.{ℕ, _+_, _-_, _≤_}
+-- `opening::open_slot` meets its contract: header, then the checks that derive nothing, then the trial.
+use mathlib.Core.Path.{_≡_, refl, sym, _∙_}
 use native.Mathlib.Omega.{arith}
 use borrow.Author.Tests.{not-true, not-false}
 use borrow.Author.Needs.{needs}
-use Rattle.rules.specs.Facts.{factsOf}
-use Rattle.rules.specs.Calls.{openSlot, opens}
-use Rattle.built.specs.Built.{aesXtsSha1, built}
+use Rattle.rules.specs.Checks.{first}
+use Rattle.rules.specs.Facts.{Facts, matches, candidate}
+use Rattle.rules.specs.Calls.{Call, openSlot, earlyChecks, lateChecks, answer, opened}
+use Rattle.rules.proofs.ChecksLaws.{Pass, accepted, refused-by, first-pass}
+use Rattle.rules.proofs.StepLaws.{numbered-early, step-header, step-early, step-late, step-accepted, opens-as}
+use Rattle.profiles.specs.Suites.{built}
 use Rattle.header.specs.Refusals.{number}
+use Rattle.header.specs.Records.{factsIn, HeaderOk}
 use Rattle.header.proofs.SoundLaws.{sound}
-use Rattle.opening.specs.Opening.{keyOf}
-use Rattle.opening.proofs.OpenLaws.{refused-header, refused-check, no-key-slot, early-bad, early-room, slot-wrong-key, slot-opened}
+use Rattle.slots.proofs.AreaLaws.{opens-on}
+use Rattle.opening.proofs.OpenLaws.{no-key-slot, opens-refused}
 use Rattle.opening.proofs.open_slot.Statement.{statement}
 use Rattle.opening.proofs.open_slot.Tie as tie
+
+-- ---- places
+
+abbrev at-1 : tie.Else1 → tie.Start
+at-1 c = c .before .before .before .before .before
+
+abbrev at-2 : tie.Else2 → tie.Else1
+at-2 c = c .before .before .before
+
+abbrev facts : tie.Start → Facts
+facts s = factsIn (s .args .image .now)
+
+abbrev call : tie.Start → Call
+call s = openSlot (s .args .slot) (s .args .passphrase .now)
+
+header-ok : (c : tie.Else1) → HeaderOk (at-1 c .args .image .now)
+header-ok c = sym (c .before .before .header-check .ensures) ∙ sym (c .before .number-of .ensures) ∙ c .if1 .left
+
+early-ok : (c : tie.Else2) → let s = at-1 (at-2 c) in first (earlyChecks (facts s) (call s)) ≡ 0
+early-ok c = sym (c .before .before .open-slot-check .ensures) ∙ sym (c .before .number-of2 .ensures) ∙ c .if2 .left
+
+passed : (c : tie.Else2) → let s = at-1 (at-2 c) in Pass (earlyChecks (facts s) (call s))
+passed c = let s = at-1 (at-2 c) in accepted (earlyChecks (facts s) (call s)) (numbered-early (facts s) (call s)) (early-ok c)
+
+-- the trial says whether the candidate matches
+matches-is : (c : tie.After-try-slot) → let s = at-1 (at-2 (c .before)) in matches (facts s) (candidate (facts s) (s .args .slot) (s .args .passphrase .now)) ≡ c .try-slot .result .opens
+unfolding earlyChecks
+matches-is c =
+    let s = at-1 (at-2 (c .before)) in
+    opens-on (facts s) (s .args .slot) (s .args .passphrase .now) _ _ (passed (c .before) .1 .1 .0) refl refl ∙ sym (c .try-slot .ensures .opens-is)
+
+-- ---- needs
 
 header-check-requires : tie.Need-header-check-requires
 header-check-requires c κs = search needs
@@ -25,12 +60,15 @@ refused-requires c κs = search needs
 
 returns : tie.Need-returns
 returns c =
-    let a = c .before .before .before .before .before .before .args in
-    refused-header (a .image .now) (openSlot (a .slot) (a .passphrase .now)) (no-key-slot (a .slot) (a .passphrase .now)) (c .before .before .before .header-check .result) _ (c .refused .ensures)
-    (λ q. c .before .if1 .taken (c .before .before .number-of .ensures ∙ q)) (c .before .before .before .header-check .ensures aesXtsSha1)
+    let e = c .before in
+    let h = e .before .before .header-check in
+    let s = e .before .before .before .before .before in
+    let m = s .args .image .now in
+    opens-refused m (call s) (no-key-slot (s .args .slot) (s .args .passphrase .now)) (c .refused .ensures)
+    (step-header built m (call s) (number (h .result)) (λ q. e .if1 .taken (e .before .number-of .ensures ∙ q)) (h .ensures))
 
 open-slot-check-requires : tie.Need-open-slot-check-requires
-open-slot-check-requires c κs = (sym (c .before .before .header-check .ensures aesXtsSha1) ∙ sym (c .before .number-of .ensures) ∙ c .if1 .left)
+open-slot-check-requires c κs = search needs
 
 number-of-requires-2 : tie.Need-number-of-requires-2
 number-of-requires-2 c κs = search needs
@@ -40,56 +78,51 @@ refused-requires-2 c κs = search needs
 
 returns-2 : tie.Need-returns-2
 returns-2 c =
-    let a = c .before .before .before .before .before .before .before .before .before .args in
-    refused-check (a .image .now) (openSlot (a .slot) (a .passphrase .now)) (no-key-slot (a .slot) (a .passphrase .now)) (c .before .before .before .open-slot-check .result) _ (c .refused2 .ensures)
-    (sym (c .before .before .before .before .before .before .header-check .ensures aesXtsSha1) ∙ sym (c .before .before .before .before .before .number-of .ensures) ∙ c .before .before .before .before .if1 .left) (λ q. c .before .if2 .taken (c .before .before .number-of2 .ensures ∙ q))
-    (early-bad (a .image .now) (a .slot) (a .passphrase .now) (number (c .before .before .before .open-slot-check .result)) (λ q. c .before .if2 .taken (c .before .before .number-of2 .ensures ∙ q)) (c .before .before .before .open-slot-check .ensures))
-
-sub-try-slot : tie.Need-sub-try-slot
-sub-try-slot c = let r = early-room (c .before .before .before .before .before .before .before .before .args .image .now) (c .before .before .before .before .before .before .before .before .args .slot) (c .before .before .before .before .before .before .before .before .args .passphrase .now) (sym (c .before .before .open-slot-check .ensures) ∙ sym (c .before .number-of2 .ensures) ∙ c .if2 .left) in omega arith
-
-cast-try-slot : tie.Need-cast-try-slot
-cast-try-slot c = search needs
+    let e = c .before in
+    let r = e .before .before .open-slot-check in
+    let p = e .before .before .before in
+    let s = at-1 p in
+    let m = s .args .image .now in
+    opens-refused m (call s) (no-key-slot (s .args .slot) (s .args .passphrase .now)) (c .refused2 .ensures)
+    (step-early built m (call s) (header-ok p) (number (r .result)) (λ q. e .if2 .taken (e .before .number-of2 .ensures ∙ q)) (r .ensures))
 
 try-slot-requires : tie.Need-try-slot-requires
-try-slot-requires c κs = let r = early-room (c .before .before .before .before .before .before .before .before .args .image .now) (c .before .before .before .before .before .before .before .before .args .slot) (c .before .before .before .before .before .before .before .before .args .passphrase .now) (sym (c .before .before .open-slot-check .ensures) ∙ sym (c .before .number-of2 .ensures) ∙ c .if2 .left) in ((sym (c .before .before .before .before .before .header-check .ensures aesXtsSha1) ∙ sym (c .before .before .before .before .number-of .ensures) ∙ c .before .before .before .if1 .left), omega arith, r .2)
+unfolding earlyChecks
+try-slot-requires c κs = let p = passed c in (header-ok (at-2 c), p .0, p .1 .0)
 
 refused-requires-3 : tie.Need-refused-requires-3
 refused-requires-3 c κs = search needs
 
 returns-3 : tie.Need-returns-3
+unfolding lateChecks
 returns-3 c =
-    let a = c .before .before .before .before .before .before .before .before .before .before .before .before .args in
-    let m = a .image .now in
-    let p = a .passphrase .now in
-    let z = (sym (c .before .before .before .before .before .before .open-slot-check .ensures) ∙ sym (c .before .before .before .before .before .number-of2 .ensures) ∙ c .before .before .before .before .if2 .left) in
-    let r = early-room m (a .slot) p z in
-    let k : a .slot - 1 + 1 ≡ a .slot = omega arith in
-    let t = c .before .before .before .try-slot in
-    refused-check m (openSlot (a .slot) p) (no-key-slot (a .slot) p) _ _ (c .refused3 .ensures) (sym (c .before .before .before .before .before .before .before .before .before .header-check .ensures aesXtsSha1) ∙ sym (c .before .before .before .before .before .before .before .before .number-of .ensures) ∙ c .before .before .before .before .before .before .before .if1 .left) (λ q. omega arith)
-    (slot-wrong-key m (a .slot) p z (t .result .opens) (t .ensures .opens-is ∙ ap (λ (j : ℕ). opens (factsOf built m) j p) k) (not-true (t .result .opens) (c .before .if3 .taken)))
+    let t = c .before .before .before in
+    let e = t .before in
+    let s = at-1 (at-2 e) in
+    let m = s .args .image .now in
+    let wrong = matches-is t ∙ not-true (t .try-slot .result .opens) (c .before .if3 .taken) in
+    opens-refused m (call s) (no-key-slot (s .args .slot) (s .args .passphrase .now)) (c .refused3 .ensures)
+    (step-late built m (call s) (header-ok (at-2 e)) (early-ok e) 17 (λ q. omega arith) (refused-by (lateChecks (facts s) (call s)) 0 tt wrong))
 
-be32-at-requires : tie.Need-be32-at-requires
-be32-at-requires c κs = omega (arith, sound aesXtsSha1 (c .before .before .before .before .before .before .before .before .before .before .before .before .args .image .now) (sym (c .before .before .before .before .before .before .before .before .before .header-check .ensures aesXtsSha1) ∙ sym (c .before .before .before .before .before .before .before .before .number-of .ensures) ∙ c .before .before .before .before .before .before .before .if1 .left) .size)
+key-bytes-requires : tie.Need-key-bytes-requires
+key-bytes-requires c κs =
+    let p = at-2 (c .before .before .before .before) in
+    sound (at-1 p .args .image .now) (header-ok p) .named
 
 cast-t8 : tie.Need-cast-t8
-cast-t8 c =
-    let s = sound aesXtsSha1 (c .before .before .before .before .before .before .before .before .before .before .before .before .before .args .image .now) (sym (c .before .before .before .before .before .before .before .before .before .before .header-check .ensures aesXtsSha1) ∙ sym (c .before .before .before .before .before .before .before .before .before .number-of .ensures) ∙ c .before .before .before .before .before .before .before .before .if1 .left) in
-    let h : c .be32-at .result ≤ 64 = omega (arith, c .be32-at .ensures, s .row .most) in
-    search needs
+cast-t8 c = search needs
 
 returns-4 : tie.Need-returns-4
+unfolding lateChecks answer opened
 returns-4 c =
-    let a = c .before .before .before .before .before .before .before .before .before .before .before .before .before .args in
-    let m = a .image .now in
-    let p = a .passphrase .now in
-    let z = (sym (c .before .before .before .before .before .before .before .open-slot-check .ensures) ∙ sym (c .before .before .before .before .before .before .number-of2 .ensures) ∙ c .before .before .before .before .before .if2 .left) in
-    let r = early-room m (a .slot) p z in
-    let k : a .slot - 1 + 1 ≡ a .slot = omega arith in
-    let t = c .before .before .before .before .try-slot in
-    let y = not-false (t .result .opens) (c .before .before .if3 .left) in
-    slot-opened m (a .slot) p (sym (c .before .before .before .before .before .before .before .before .before .before .header-check .ensures aesXtsSha1) ∙ sym (c .before .before .before .before .before .before .before .before .before .number-of .ensures) ∙ c .before .before .before .before .before .before .before .before .if1 .left) z (t .result .opens) (t .ensures .opens-is ∙ ap (λ (j : ℕ). opens (factsOf built m) j p) k) y _
-    (sym (c .before .before .before .before .before .before .number-of2 .ensures) ∙ c .before .before .before .before .before .if2 .left) refl (c .be32-at .ensures) (t .ensures .key-is y ∙ ap (λ (j : ℕ). keyOf (factsOf built m) j p) k)
+    let t = c .before .before .before .before in
+    let e = t .before in
+    let s = at-1 (at-2 e) in
+    let m = s .args .image .now in
+    let right = not-false (t .try-slot .result .opens) (c .before .before .if3 .left) in
+    let late = first-pass (lateChecks (facts s) (call s)) (matches-is t ∙ right, tt) in
+    opens-as built m (call s) _ (step-accepted built m (call s) (header-ok (at-2 e)) (early-ok e) late) _ _ _ _
+    (sym (e .before .number-of2 .ensures) ∙ e .if2 .left) refl (c .key-bytes .ensures .0) (t .try-slot .ensures .key-is right)
 
 pub open-slot-spec : {M : Type 1} → statement M
 open-slot-spec =
@@ -103,11 +136,9 @@ open-slot-spec =
     number-of-requires-2
     refused-requires-2
     returns-2
-    sub-try-slot
-    cast-try-slot
     try-slot-requires
     refused-requires-3
     returns-3
-    be32-at-requires
+    key-bytes-requires
     cast-t8
     returns-4)

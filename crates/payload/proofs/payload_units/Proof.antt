@@ -4,27 +4,28 @@ use Prim.Native.Nat.{ℕ, _-_, _/_}
 use native.Mathlib.Omega.{arith}
 use lib.ListN.{length}
 use borrow.Author.Needs.{needs}
-use Rattle.rules.specs.Facts.{factsOf}
-use Rattle.built.specs.Built.{built}
-use Rattle.payload.proofs.PayloadLaws.{payload-length, payload-ends}
+use Rattle.header.specs.Records.{factsIn}
+use Rattle.header.proofs.SoundLaws.{sound}
+use Rattle.payload.proofs.PayloadLaws.{payload-length}
 use Rattle.payload.proofs.payload_units.Statement.{statement}
 use Rattle.payload.proofs.payload_units.Tie as tie
 
 payload-at-requires : tie.Need-payload-at-requires
-payload-at-requires c κs = search needs
+payload-at-requires c κs = let s = c .before in sound (s .args .image .now) (s .pre) .size
 
 unit-offset-requires : tie.Need-unit-offset-requires
 unit-offset-requires c κs = search needs
 
-sub-result : tie.Need-sub-result
-sub-result c = let s = c .before .before .before in omega (arith, c .unit-offset .ensures, c .before .payload-at .ensures, payload-ends (s .args .image .now) (s .pre))
+sub-t6 : tie.Need-sub-t6
+sub-t6 c =
+    let s = c .before .before .before in
+    omega (arith, c .unit-offset .ensures, c .before .payload-at .ensures, sound (s .args .image .now) (s .pre) .payload-ends)
 
 returns : tie.Need-returns
 returns c =
     let m = c .before .before .before .args .image .now in
-    let e : length m - c .unit-offset .result ≡ length (factsOf built m .payload) = omega (arith, c .unit-offset .ensures, c .before .payload-at .ensures, payload-length m) in
+    let e : length m - c .unit-offset .result ≡ length (factsIn m .payload) = omega (arith, c .unit-offset .ensures, c .before .payload-at .ensures, payload-length m) in
     ap (λ (n : ℕ). n / 512) e
 
 pub payload-units-spec : {M : Type 1} → statement M
-payload-units-spec =
-    tie.close (tie.spec payload-at-requires unit-offset-requires sub-result returns)
+payload-units-spec = tie.close (tie.spec payload-at-requires unit-offset-requires sub-t6 returns)

@@ -1,28 +1,53 @@
--- `payload::read` meets its contract.
+-- `payload::read` meets its contract: header, then the checks that derive nothing, then the key.
 use mathlib.Core.Path.{_≡_, sym, _∙_}
+use mathlib.Core.Logic.{_≢_}
+use native.Mathlib.Omega.{arith}
+use borrow.Author.Tests.{not-true, not-false}
 use borrow.Author.Needs.{needs}
 use Rattle.rules.specs.Checks.{first}
-use Rattle.rules.specs.Facts.{factsOf}
-use Rattle.rules.specs.Header.{headerChecks}
-use Rattle.rules.specs.Calls.{rangeChecks}
-use Rattle.built.specs.Built.{aesXtsSha1, built}
+use Rattle.rules.specs.Facts.{Facts}
+use Rattle.rules.specs.Calls.{Call, read, earlyChecks, lateChecks, answer}
+use Rattle.rules.proofs.ChecksLaws.{refused-by, first-pass}
+use Rattle.rules.proofs.StepLaws.{step-header, step-early, step-late, step-accepted, reads-refused, reads-accepted}
+use Rattle.profiles.specs.Suites.{built}
 use Rattle.header.specs.Refusals.{number}
-use Rattle.payload.proofs.PayloadLaws.{read-header, read-check, read-accepted}
+use Rattle.header.specs.Records.{factsIn, HeaderOk}
+use Rattle.payload.proofs.PayloadLaws.{room}
 use Rattle.payload.proofs.read.Statement.{statement}
 use Rattle.payload.proofs.read.Tie as tie
 
-abbrev start : tie.Else1 → tie.Start
-start p = p .before .before .before .before .before .before
+-- ---- places
 
--- what is known of an image whose header is accepted, and of arguments that are
-header-ok : (p : tie.Else1) → first (headerChecks built (start p .args .image .now)) ≡ 0
-header-ok p = sym (p .before .before .header-check .ensures aesXtsSha1) ∙ sym (p .before .number-of .ensures) ∙ p .if1 .left
+abbrev at-1 : tie.Else1 → tie.Start
+at-1 c = c .before .before .before .before .before .before
 
-abbrev accepted : tie.Else2 → tie.Else1
-accepted p = p .before .before .before .before
+abbrev at-2 : tie.Else2 → tie.Else1
+at-2 c = c .before .before .before .before
 
-range-ok : (p : tie.Else2) → let a = start (accepted p) .args in first (rangeChecks (factsOf built (a .image .now)) (a .key .now) (a .first .0) (a .units) (a .buffer .now)) ≡ 0
-range-ok p = sym (p .before .before .range-check .ensures) ∙ sym (p .before .number-of2 .ensures) ∙ p .if2 .left
+abbrev at-3 : tie.Else3 → tie.Else2
+at-3 c = c .before .before
+
+abbrev facts : tie.Start → Facts
+facts s = factsIn (s .args .image .now)
+
+abbrev call : tie.Start → Call
+call s = read (s .args .key .now) (s .args .from .0) (s .args .units .0) (s .args .buffer .now)
+
+header-ok : (c : tie.Else1) → HeaderOk (at-1 c .args .image .now)
+header-ok c = sym (c .before .before .header-check .ensures) ∙ sym (c .before .number-of .ensures) ∙ c .if1 .left
+
+early-ok : (c : tie.Else2) → let s = at-1 (at-2 c) in first (earlyChecks (facts s) (call s)) ≡ 0
+unfolding earlyChecks
+early-ok c = sym (c .before .before .range-check .ensures) ∙ sym (c .before .number-of2 .ensures) ∙ c .if2 .left
+
+late-ok : (c : tie.Else3) → let s = at-1 (at-2 (at-3 c)) in first (lateChecks (facts s) (call s)) ≡ 0
+unfolding lateChecks
+late-ok c =
+    let s = at-1 (at-2 (at-3 c)) in
+    let t = c .before .key-matches in
+    first-pass (lateChecks (facts s) (call s)) (sym (t .ensures) ∙ not-false (t .result) (c .if3 .left), tt)
+
+-- ---- needs
 
 header-check-requires : tie.Need-header-check-requires
 header-check-requires c κs = search needs
@@ -32,11 +57,14 @@ number-of-requires c κs = search needs
 
 returns : tie.Need-returns
 returns c =
-    let a = c .before .before .before .before .before .before .args in
-    read-header (a .image .now) (a .key .now) (a .first .0) (a .units) (a .buffer .now) (number (c .before .before .header-check .result)) (λ q. c .if1 .taken (c .before .number-of .ensures ∙ q)) (c .before .before .header-check .ensures aesXtsSha1)
+    let h = c .before .before .header-check in
+    let s = c .before .before .before .before .before .before in
+    let m = s .args .image .now in
+    let n : number (h .result) ≢ 0 = λ q. c .if1 .taken (c .before .number-of .ensures ∙ q) in
+    reads-refused built m (call s) _ n (s .args .buffer .now) (step-header built m (call s) (number (h .result)) n (h .ensures))
 
 range-check-requires : tie.Need-range-check-requires
-range-check-requires c κs = header-ok (c .before)
+range-check-requires c κs = search needs
 
 number-of-requires-2 : tie.Need-number-of-requires-2
 number-of-requires-2 c κs = search needs
@@ -45,22 +73,52 @@ same-length : tie.Need-same-length
 same-length c = search needs
 
 returns-2 : tie.Need-returns-2
+unfolding earlyChecks
 returns-2 c =
-    let a = start (c .before .before .before .before) .args in
-    read-check (a .image .now) (a .key .now) (a .first .0) (a .units) (a .buffer .now) (header-ok (c .before .before .before .before)) (number (c .before .before .range-check .result)) (λ q. c .if2 .taken (c .before .number-of2 .ensures ∙ q)) (c .before .before .range-check .ensures)
+    let r = c .before .before .range-check in
+    let p = c .before .before .before .before in
+    let s = at-1 p in
+    let m = s .args .image .now in
+    let n : number (r .result) ≢ 0 = λ q. c .if2 .taken (c .before .number-of2 .ensures ∙ q) in
+    reads-refused built m (call s) _ n (s .args .buffer .now) (step-early built m (call s) (header-ok p) (number (r .result)) n (r .ensures))
 
-read-units-requires : tie.Need-read-units-requires
-read-units-requires c κs = (header-ok (c .before .before .before .before .before), range-ok (c .before))
+key-matches-requires : tie.Need-key-matches-requires
+unfolding earlyChecks
+key-matches-requires c κs =
+    let e = c in
+    let s = at-1 (at-2 e) in
+    let a = s .args in
+    (header-ok (at-2 e), room (a .image .now) (header-ok (at-2 e)) (a .key .now) (a .from .0) (a .units .0) (a .buffer .now) (early-ok e) .key-most)
 
 same-length-2 : tie.Need-same-length-2
 same-length-2 c = search needs
 
 returns-3 : tie.Need-returns-3
+unfolding lateChecks
 returns-3 c =
+    let t = c .before .key-matches in
+    let e = c .before .before in
+    let s = at-1 (at-2 e) in
+    let m = s .args .image .now in
+    let wrong = sym (t .ensures) ∙ not-true (t .result) (c .if3 .taken) in
+    reads-refused built m (call s) 17 (λ q. omega arith) (s .args .buffer .now)
+    (step-late built m (call s) (header-ok (at-2 e)) (early-ok e) 17 (λ q. omega arith) (refused-by (lateChecks (facts s) (call s)) 0 tt wrong))
+
+read-units-requires : tie.Need-read-units-requires
+read-units-requires c κs = search needs
+
+same-length-3 : tie.Need-same-length-3
+same-length-3 c = search needs
+
+returns-4 : tie.Need-returns-4
+unfolding answer
+returns-4 c =
     let p = c .before .before .before .before in
-    let a = start (accepted p) .args in
-    read-accepted (a .image .now) (a .key .now) (a .first .0) (a .units) (a .buffer .now) (header-ok (accepted p)) (number (p .before .before .range-check .result)) _ (sym (p .before .number-of2 .ensures) ∙ p .if2 .left) (p .before .before .range-check .ensures)
-    (c .before .before .read-units .ensures)
+    let e = at-3 p in
+    let s = at-1 (at-2 e) in
+    let m = s .args .image .now in
+    let z = sym (e .before .number-of2 .ensures) ∙ e .if2 .left in
+    reads-accepted built m (call s) _ (step-accepted built m (call s) (header-ok (at-2 e)) (early-ok e) (late-ok p)) _ (s .args .buffer .now) _ z z (c .before .before .read-units .ensures)
 
 pub read-spec : {M : Type 1} → statement M
 read-spec =
@@ -73,6 +131,9 @@ read-spec =
     number-of-requires-2
     same-length
     returns-2
-    read-units-requires
+    key-matches-requires
     same-length-2
-    returns-3)
+    returns-3
+    read-units-requires
+    same-length-3
+    returns-4)

@@ -1,28 +1,52 @@
--- `payload::write` meets its contract.
-use mathlib.Core.Path.{_≡_, refl, sym, _∙_}
+-- `payload::write` meets its contract: header, then the checks that derive nothing, then the key.
+use mathlib.Core.Path.{_≡_, sym, _∙_}
+use native.Mathlib.Omega.{arith}
+use borrow.Author.Tests.{not-true, not-false}
 use borrow.Author.Needs.{needs}
 use Rattle.rules.specs.Checks.{first}
-use Rattle.rules.specs.Facts.{factsOf}
-use Rattle.rules.specs.Header.{headerChecks}
-use Rattle.rules.specs.Calls.{rangeChecks, write, checks, done, answer}
-use Rattle.rules.proofs.StepLaws.{settled-header, settled-check, settled-accepted}
-use Rattle.built.specs.Built.{aesXtsSha1, built}
+use Rattle.rules.specs.Facts.{Facts}
+use Rattle.rules.specs.Calls.{Call, write, earlyChecks, lateChecks, answer, done}
+use Rattle.rules.proofs.ChecksLaws.{refused-by, first-pass}
+use Rattle.rules.proofs.StepLaws.{step-header, step-early, step-late, step-accepted, does-refused, does-accepted}
+use Rattle.profiles.specs.Suites.{built}
 use Rattle.header.specs.Refusals.{number}
+use Rattle.header.specs.Records.{factsIn, HeaderOk}
+use Rattle.payload.proofs.PayloadLaws.{room}
 use Rattle.payload.proofs.write.Statement.{statement}
 use Rattle.payload.proofs.write.Tie as tie
 
-abbrev start : tie.Else1 → tie.Start
-start p = p .before .before .before .before .before .before .before
+-- ---- places
 
--- what is known of an image whose header is accepted, and of arguments that are
-header-ok : (p : tie.Else1) → first (headerChecks built (start p .args .image .now)) ≡ 0
-header-ok p = sym (p .before .before .header-check .ensures aesXtsSha1) ∙ sym (p .before .number-of .ensures) ∙ p .if1 .left
+abbrev at-1 : tie.Else1 → tie.Start
+at-1 c = c .before .before .before .before .before .before .before
 
-abbrev accepted : tie.Else2 → tie.Else1
-accepted p = p .before .before .before .before
+abbrev at-2 : tie.Else2 → tie.Else1
+at-2 c = c .before .before .before .before
 
-range-ok : (p : tie.Else2) → let a = start (accepted p) .args in first (rangeChecks (factsOf built (a .image .now)) (a .key .now) (a .first .0) (a .units) (a .buffer .now)) ≡ 0
-range-ok p = sym (p .before .before .range-check .ensures) ∙ sym (p .before .number-of2 .ensures) ∙ p .if2 .left
+abbrev at-3 : tie.Else3 → tie.Else2
+at-3 c = c .before .before .before
+
+abbrev facts : tie.Start → Facts
+facts s = factsIn (s .args .image .now)
+
+abbrev call : tie.Start → Call
+call s = write (s .args .key .now) (s .args .from .0) (s .args .units .0) (s .args .buffer .now)
+
+header-ok : (c : tie.Else1) → HeaderOk (at-1 c .args .image .now)
+header-ok c = sym (c .before .before .header-check .ensures) ∙ sym (c .before .number-of .ensures) ∙ c .if1 .left
+
+early-ok : (c : tie.Else2) → let s = at-1 (at-2 c) in first (earlyChecks (facts s) (call s)) ≡ 0
+unfolding earlyChecks
+early-ok c = sym (c .before .before .range-check .ensures) ∙ sym (c .before .number-of2 .ensures) ∙ c .if2 .left
+
+late-ok : (c : tie.Else3) → let s = at-1 (at-2 (at-3 c)) in first (lateChecks (facts s) (call s)) ≡ 0
+unfolding lateChecks
+late-ok c =
+    let s = at-1 (at-2 (at-3 c)) in
+    let t = c .before .key-matches in
+    first-pass (lateChecks (facts s) (call s)) (sym (t .ensures) ∙ not-false (t .result) (c .if3 .left), tt)
+
+-- ---- needs
 
 header-check-requires : tie.Need-header-check-requires
 header-check-requires c κs = search needs
@@ -35,11 +59,14 @@ same-length c = search needs
 
 returns : tie.Need-returns
 returns c =
-    let a = c .before .before .before .before .before .before .before .args in
-    settled-header built (a .image .now) (write (a .key .now) (a .first .0) (a .units) (a .buffer .now)) (number (c .before .before .header-check .result)) (λ q. c .if1 .taken (c .before .number-of .ensures ∙ q)) (c .before .before .header-check .ensures aesXtsSha1)
+    let h = c .before .before .header-check in
+    let s = c .before .before .before .before .before .before .before in
+    let m = s .args .image .now in
+    does-refused built m (call s) _
+    (step-header built m (call s) (number (h .result)) (λ q. c .if1 .taken (c .before .number-of .ensures ∙ q)) (h .ensures))
 
 range-check-requires : tie.Need-range-check-requires
-range-check-requires c κs = header-ok (c .before)
+range-check-requires c κs = search needs
 
 number-of-requires-2 : tie.Need-number-of-requires-2
 number-of-requires-2 c κs = search needs
@@ -48,24 +75,52 @@ same-length-2 : tie.Need-same-length-2
 same-length-2 c = search needs
 
 returns-2 : tie.Need-returns-2
-unfolding checks
+unfolding earlyChecks
 returns-2 c =
-    let a = start (c .before .before .before .before) .args in
-    settled-check built (a .image .now) (write (a .key .now) (a .first .0) (a .units) (a .buffer .now)) (header-ok (c .before .before .before .before)) (number (c .before .before .range-check .result)) (λ q. c .if2 .taken (c .before .number-of2 .ensures ∙ q)) (c .before .before .range-check .ensures)
+    let r = c .before .before .range-check in
+    let p = c .before .before .before .before in
+    let s = at-1 p in
+    let m = s .args .image .now in
+    does-refused built m (call s) _
+    (step-early built m (call s) (header-ok p) (number (r .result)) (λ q. c .if2 .taken (c .before .number-of2 .ensures ∙ q)) (r .ensures))
 
-write-units-requires : tie.Need-write-units-requires
-write-units-requires c κs = (header-ok (c .before .before .before .before .before), range-ok (c .before))
+key-matches-requires : tie.Need-key-matches-requires
+unfolding earlyChecks
+key-matches-requires c κs =
+    let e = c .before in
+    let s = at-1 (at-2 e) in
+    let a = s .args in
+    (header-ok (at-2 e), room (a .image .now) (header-ok (at-2 e)) (a .key .now) (a .from .0) (a .units .0) (a .buffer .now) (early-ok e) .key-most)
 
 same-length-3 : tie.Need-same-length-3
 same-length-3 c = search needs
 
 returns-3 : tie.Need-returns-3
-unfolding checks answer done
+unfolding lateChecks
 returns-3 c =
+    let t = c .before .key-matches in
+    let e = c .before .before .before in
+    let s = at-1 (at-2 e) in
+    let m = s .args .image .now in
+    let wrong = sym (t .ensures) ∙ not-true (t .result) (c .if3 .taken) in
+    does-refused built m (call s) 17
+    (step-late built m (call s) (header-ok (at-2 e)) (early-ok e) 17 (λ q. omega arith) (refused-by (lateChecks (facts s) (call s)) 0 tt wrong))
+
+write-units-requires : tie.Need-write-units-requires
+write-units-requires c κs = search needs
+
+same-length-4 : tie.Need-same-length-4
+same-length-4 c = search needs
+
+returns-4 : tie.Need-returns-4
+unfolding answer done
+returns-4 c =
     let p = c .before .before .before .before in
-    let a = start (accepted p) .args in
-    settled-accepted built (a .image .now) (write (a .key .now) (a .first .0) (a .units) (a .buffer .now)) (header-ok (accepted p)) (number (p .before .before .range-check .result)) _ (sym (p .before .number-of2 .ensures) ∙ p .if2 .left) (p .before .before .range-check .ensures) refl
-    (c .before .before .write-units .ensures)
+    let e = at-3 p in
+    let s = at-1 (at-2 e) in
+    let m = s .args .image .now in
+    let z = sym (e .before .number-of2 .ensures) ∙ e .if2 .left in
+    does-accepted built m (call s) _ (step-accepted built m (call s) (header-ok (at-2 e)) (early-ok e) (late-ok p)) _ _ z (c .before .before .write-units .ensures)
 
 pub write-spec : {M : Type 1} → statement M
 write-spec =
@@ -79,6 +134,9 @@ write-spec =
     number-of-requires-2
     same-length-2
     returns-2
-    write-units-requires
+    key-matches-requires
     same-length-3
-    returns-3)
+    returns-3
+    write-units-requires
+    same-length-4
+    returns-4)

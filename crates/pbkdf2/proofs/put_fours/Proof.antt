@@ -38,11 +38,11 @@ cast-four-blocks c = search needs
 four-blocks-requires : tie.Need-four-blocks-requires Inv-loop μ-loop
 four-blocks-requires c κs = search needs
 
-sub-least : tie.Need-sub-least Inv-loop μ-loop
-sub-least c = search needs
+sub-min : tie.Need-sub-min Inv-loop μ-loop
+sub-min c = search needs
 
-least-requires : tie.Need-least-requires Inv-loop μ-loop
-least-requires c κs = search needs
+min-requires : tie.Need-min-requires Inv-loop μ-loop
+min-requires c κs = search needs
 
 array-share-prefix-t : tie.Need-array-share-prefix-t Inv-loop μ-loop
 array-share-prefix-t c = search needs
@@ -50,7 +50,7 @@ array-share-prefix-t c = search needs
 slice-aggregate-copy-into : tie.Need-slice-aggregate-copy-into Inv-loop μ-loop
 slice-aggregate-copy-into c =
     let t = c .before .before .before .four-blocks .result in
-    let e = c .before .before .least .result in
+    let e = c .before .before .min .result in
     let l : length t ≡ 80 = search needs in
     let h : e ≤ 80 = omega arith in
     sym (length-take-le e t (omega arith))
@@ -58,7 +58,7 @@ slice-aggregate-copy-into c =
 copy-into-requires : tie.Need-copy-into-requires Inv-loop μ-loop
 copy-into-requires c κs =
     let t = c .before .before .before .four-blocks .result in
-    let e = c .before .before .least .result in
+    let e = c .before .before .min .result in
     let l : length t ≡ 80 = search needs in
     let h : e ≤ 80 = omega arith in
     omega (arith, length-take-le e t (omega arith))
@@ -75,7 +75,7 @@ loop-again c =
     let l = at .loop in
     let a = at .before .before .before .args in
     let t = c .before .before .before .before .before .before .four-blocks in
-    let e = c .before .before .before .before .before .least in
+    let e = c .before .before .before .before .before .min in
     let q = c .before .before .copy-into in
     let j : ℕ = 4 * l .g in
     let lt : length (t .result) ≡ 80 = search needs in
@@ -112,8 +112,8 @@ put-fours-spec =
     add-four-blocks
     cast-four-blocks
     four-blocks-requires
-    sub-least
-    least-requires
+    sub-min
+    min-requires
     array-share-prefix-t
     slice-aggregate-copy-into
     copy-into-requires

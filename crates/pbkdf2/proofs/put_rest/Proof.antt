@@ -36,11 +36,11 @@ cast-block c = search needs
 block-requires : tie.Need-block-requires Inv-loop μ-loop
 block-requires c κs = search needs
 
-sub-least : tie.Need-sub-least Inv-loop μ-loop
-sub-least c = search needs
+sub-min : tie.Need-sub-min Inv-loop μ-loop
+sub-min c = search needs
 
-least-requires : tie.Need-least-requires Inv-loop μ-loop
-least-requires c κs = search needs
+min-requires : tie.Need-min-requires Inv-loop μ-loop
+min-requires c κs = search needs
 
 array-share-prefix-t : tie.Need-array-share-prefix-t Inv-loop μ-loop
 array-share-prefix-t c = search needs
@@ -48,7 +48,7 @@ array-share-prefix-t c = search needs
 slice-aggregate-copy-into : tie.Need-slice-aggregate-copy-into Inv-loop μ-loop
 slice-aggregate-copy-into c =
     let t = c .before .before .before .block .result in
-    let e = c .before .before .least .result in
+    let e = c .before .before .min .result in
     let l : length t ≡ 20 = search needs in
     let h : e ≤ 20 = omega arith in
     sym (length-take-le e t (omega arith))
@@ -56,7 +56,7 @@ slice-aggregate-copy-into c =
 copy-into-requires : tie.Need-copy-into-requires Inv-loop μ-loop
 copy-into-requires c κs =
     let t = c .before .before .before .block .result in
-    let e = c .before .before .least .result in
+    let e = c .before .before .min .result in
     let l : length t ≡ 20 = search needs in
     let h : e ≤ 20 = omega arith in
     omega (arith, length-take-le e t (omega arith))
@@ -73,7 +73,7 @@ loop-again c =
     let l = at .loop in
     let a = at .before .before .before .args in
     let t = c .before .before .before .before .before .before .block in
-    let e = c .before .before .before .before .before .least in
+    let e = c .before .before .before .before .before .min in
     let q = c .before .before .copy-into in
     let lt : length (t .result) ≡ 20 = search needs in (
       omega arith,
@@ -106,8 +106,8 @@ put-rest-spec =
     add-block
     cast-block
     block-requires
-    sub-least
-    least-requires
+    sub-min
+    min-requires
     array-share-prefix-t
     slice-aggregate-copy-into
     copy-into-requires

@@ -1,22 +1,18 @@
 -- `revoking::any_enabled` meets its contract.
-use mathlib.Core.Path.{_≡_, refl, _∙_}
-use mathlib.Core.List.{map}
-use Prim.Native.Nat.{_-_, _≤_}
+use mathlib.Core.Path.{_≡_, refl, sym, _∙_}
+use Prim.Native.Nat.{_+_, _-_, _≤_}
 use native.Mathlib.Omega.{arith}
-use lib.ListN.{take, drop}
 use borrow.Author.Needs.{needs}
-use Rattle.rules.specs.Layout.{slots}
-use Rattle.rules.specs.Facts.{isEnabled}
+use Rattle.rules.specs.Facts.{slotOf}
 use Rattle.rules.specs.Calls.{anyEnabled}
-use Rattle.header.specs.Layout.{slotIn}
-use Rattle.revoking.proofs.RevokeLaws.{any-hit, any-more, any-none}
-use Rattle.header.proofs.SlotLaws.{enabled-is}
+use Rattle.header.specs.Records.{factsIn}
+use Rattle.header.proofs.FactsLaws.{enabled-is}
+use Rattle.revoking.proofs.RevokeLaws.{range, any-hit, any-more, any-none}
 use Rattle.revoking.proofs.any_enabled.Statement.{statement}
 use Rattle.revoking.proofs.any_enabled.Tie as tie
 
 abbrev Inv-loop : tie.InvT-loop
-Inv-loop image from to k₀ k =
-    (k ≤ to) × (anyEnabled (map (slotIn image) (take (to - k) (drop k slots))) ≡ anyEnabled (map (slotIn image) (take (to - from) (drop from slots))))
+Inv-loop image from to k₀ k = (k ≤ to) × (anyEnabled (range image k to) ≡ anyEnabled (range image from to))
 
 abbrev μ-loop : tie.MeasureT-loop
 μ-loop image from to k₀ k = to - k
@@ -32,11 +28,11 @@ is-enabled-requires c κs = search needs
 
 returns : tie.Need-returns Inv-loop μ-loop
 returns c =
-    let a = c .before .before .before .before .before .before .args in
-    let m = a .image .now in
+    let r = c .before .before .slot-at in
     let l = c .before .before .before .before .loop in
-    let e : isEnabled (slotIn m (l .k)) ≡ c .before .is-enabled .result = enabled-is m (l .k) (c .before .before .slot-at .result) (c .before .before .slot-at .ensures) (c .before .is-enabled .result) (c .before .is-enabled .ensures) in
-    any-hit (slotIn m) (l .k) (a .to) (omega arith) _ (l .inv .1) (omega arith) (e ∙ c .if1 .taken)
+    let a = c .before .before .before .before .before .before .args in
+    let e = sym (enabled-is (r .result) (slotOf (factsIn (a .image .now)) (l .k + 1)) (r .ensures)) ∙ sym (c .before .is-enabled .ensures) ∙ c .if1 .taken in
+    any-hit (a .image .now) (l .k) (a .to) (omega arith) _ (l .inv .1) (omega arith) e
 
 add-k : tie.Need-add-k Inv-loop μ-loop
 add-k c = search needs
@@ -46,17 +42,17 @@ loop-less c = search needs
 
 loop-again : tie.Need-loop-again Inv-loop μ-loop
 loop-again c =
-    let a = c .before .before .before .before .before .before .args in
-    let m = a .image .now in
+    let r = c .before .before .slot-at in
     let l = c .before .before .before .before .loop in
-    let e : isEnabled (slotIn m (l .k)) ≡ c .before .is-enabled .result = enabled-is m (l .k) (c .before .before .slot-at .result) (c .before .before .slot-at .ensures) (c .before .is-enabled .result) (c .before .is-enabled .ensures) in
-    (omega arith, any-more (slotIn m) (l .k) (a .to) (omega arith) _ (l .inv .1) (omega arith) (e ∙ c .if1 .left))
+    let a = c .before .before .before .before .before .before .args in
+    let e = sym (enabled-is (r .result) (slotOf (factsIn (a .image .now)) (l .k + 1)) (r .ensures)) ∙ sym (c .before .is-enabled .ensures) ∙ c .if1 .left in
+    (omega arith, any-more (a .image .now) (l .k) (a .to) (omega arith) _ (l .inv .1) (omega arith) e)
 
 returns-2 : tie.Need-returns-2 Inv-loop μ-loop
 returns-2 c =
-    let a = c .before .before .before .args in
     let l = c .before .loop in
-    any-none (slotIn (a .image .now)) (l .k) (a .to) (omega arith) _ (l .inv .1) (omega arith)
+    let a = c .before .before .before .args in
+    any-none (a .image .now) (l .k) (a .to) (omega arith) _ (l .inv .1) (omega arith)
 
 pub any-enabled-spec : {M : Type 1} → statement M
 any-enabled-spec =

@@ -2,7 +2,6 @@
 use mathlib.Core.Path.{sym, _∙_}
 use native.Mathlib.Omega.{arith}
 use borrow.Author.Needs.{needs}
-use Rattle.header.specs.Layout.{slotIn}
 use Rattle.revoking.proofs.RevokeLaws.{other-before, other-after}
 use Rattle.revoking.proofs.other_enabled.Statement.{statement}
 use Rattle.revoking.proofs.other_enabled.Tie as tie
@@ -11,7 +10,9 @@ any-enabled-requires : tie.Need-any-enabled-requires
 any-enabled-requires c κs = search needs
 
 returns : tie.Need-returns
-returns c = other-before (slotIn (c .before .before .before .args .image .now)) (c .before .before .before .args .k) (omega arith) (sym (c .before .any-enabled .ensures) ∙ c .if1 .taken)
+returns c =
+    let a = c .before .before .before .args in
+    other-before (a .image .now) (a .k) (omega arith) (sym (c .before .any-enabled .ensures) ∙ c .if1 .taken)
 
 add-any-enabled : tie.Need-add-any-enabled
 add-any-enabled c = search needs
@@ -20,7 +21,9 @@ any-enabled-requires-2 : tie.Need-any-enabled-requires-2
 any-enabled-requires-2 c κs = search needs
 
 returns-2 : tie.Need-returns-2
-returns-2 c = other-after (slotIn (c .before .before .before .before .args .image .now)) (c .before .before .before .before .args .k) (omega arith) _ (sym (c .before .before .any-enabled .ensures) ∙ c .before .if1 .left) (c .any-enabled2 .ensures)
+returns-2 c =
+    let a = c .before .before .before .before .args in
+    other-after (a .image .now) (a .k) (omega arith) _ (sym (c .before .before .any-enabled .ensures) ∙ c .before .if1 .left) (c .any-enabled2 .ensures)
 
 pub other-enabled-spec : {M : Type 1} → statement M
 other-enabled-spec =

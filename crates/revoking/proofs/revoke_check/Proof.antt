@@ -1,105 +1,111 @@
--- `revoking::revoke_check` meets its contract.
+-- `revoking::revoke_check` meets its contract: each way out is a check of the list.
 use mathlib.Core.Path.{_≡_, sym, _∙_}
-use mathlib.Core.Path.{ap₂}
-use Prim.Native.Nat.{_-_, _*_}
+use mathlib.Core.List.{List}
+use mathlib.Core.Bool.{true}
 use native.Mathlib.Omega.{arith}
-use lib.ListN.{length}
-use borrow.Author.Tests.{eq-eqb, ne-eqb, not-true, not-false}
+use lib.ListN.{take}
+use borrow.Author.Tests.{not-true, not-false}
 use borrow.Author.Needs.{needs}
-use Rattle.octets.specs.Octets.{quadAt}
-use Rattle.header.specs.Layout.{slotIn}
-use Rattle.header.proofs.SoundLaws.{sound}
-use Rattle.built.specs.Built.{aesXtsSha1}
+use Rattle.rules.specs.Checks.{Check}
+use Rattle.rules.specs.Calls.{revoke, earlyChecks, slotNumberOk}
+use Rattle.rules.proofs.ChecksLaws.{Pass, refused-by, all-pass}
 use Rattle.rules.proofs.ArgumentLaws.{number-in}
-use Rattle.revoking.proofs.RevokeLaws.{bad-slot, not-enabled, last-slot, bad-filler, all-hold}
-use Rattle.header.proofs.SlotLaws.{enabled-is, stripes-fit}
+use Rattle.header.specs.Records.{factsIn}
+use Rattle.header.proofs.SoundLaws.{sound}
 use Rattle.revoking.proofs.revoke_check.Statement.{statement}
 use Rattle.revoking.proofs.revoke_check.Tie as tie
+
+-- ---- places: behind check i the checks up to it have passed
+
+abbrev list : tie.Start → List Check
+list s = earlyChecks (factsIn (s .args .image .now)) (revoke (s .args .slot) (s .args .filler .now))
+
+abbrev start-1 : tie.Else1 → tie.Start
+start-1 c = c .before .before .before .before
+
+abbrev start-2 : tie.Else2 → tie.Start
+start-2 c = start-1 (c .before .before)
+
+abbrev start-3 : tie.Else3 → tie.Start
+start-3 c = start-2 (c .before .before .before)
+
+abbrev start-4 : tie.Else4 → tie.Start
+start-4 c = start-3 (c .before)
+
+number-ok : (c : tie.Else1) → slotNumberOk (start-1 c .args .slot) ≡ true
+number-ok c = sym (c .before .slot-number-ok .ensures) ∙ not-false (c .before .slot-number-ok .result) (c .if1 .left)
+
+pass-1 : (c : tie.Else1) → Pass (take 1 (list (start-1 c)))
+unfolding earlyChecks
+pass-1 c = (number-ok c, tt)
+
+pass-2 : (c : tie.Else2) → Pass (take 2 (list (start-2 c)))
+unfolding earlyChecks
+pass-2 c = (pass-1 (c .before .before) .0, (sym (c .before .slot-enabled .ensures) ∙ not-false (c .before .slot-enabled .result) (c .if2 .left), tt))
+
+pass-3 : (c : tie.Else3) → Pass (take 3 (list (start-3 c)))
+unfolding earlyChecks
+pass-3 c =
+    let p = pass-2 (c .before .before .before) in
+    let t = c .before .before .other-enabled in
+    (p .0, (p .1 .0, (sym (t .ensures) ∙ not-false (t .result) (c .if3 .left), tt)))
+
+-- ---- needs
 
 slot-number-ok-requires : tie.Need-slot-number-ok-requires
 slot-number-ok-requires c κs = search needs
 
 returns : tie.Need-returns
+unfolding earlyChecks
 returns c =
-    let a = c .before .before .before .before .args in
-    let m = a .image .now in
-    let ok = c .before .before .before .before .pre in
-    bad-slot m ok (a .slot) (a .filler .now) (sym (c .before .slot-number-ok .ensures) ∙ not-true (c .before .slot-number-ok .result) (c .if1 .taken))
+    let t = c .before .slot-number-ok in
+    refused-by (list (c .before .before .before .before)) 0 tt (sym (t .ensures) ∙ not-true (t .result) (c .if1 .taken))
 
-sub-k : tie.Need-sub-k
-sub-k c = let r = number-in (c .before .before .before .before .args .slot) (sym (c .before .slot-number-ok .ensures) ∙ not-false (c .before .slot-number-ok .result) (c .if1 .left)) in omega arith
-
-cast-k : tie.Need-cast-k
-cast-k c = search needs
-
-slot-at-requires : tie.Need-slot-at-requires
-slot-at-requires c κs = let r = number-in (c .before .before .before .before .args .slot) (sym (c .before .slot-number-ok .ensures) ∙ not-false (c .before .slot-number-ok .result) (c .if1 .left)) in (omega arith, sound aesXtsSha1 (c .before .before .before .before .args .image .now) (c .before .before .before .before .pre) .size)
-
-is-enabled-requires : tie.Need-is-enabled-requires
-is-enabled-requires c κs = search needs
+slot-enabled-requires : tie.Need-slot-enabled-requires
+slot-enabled-requires c κs = (start-1 c .pre, number-ok c)
 
 returns-2 : tie.Need-returns-2
+unfolding earlyChecks
 returns-2 c =
-    let a = c .before .before .before .before .before .before .before .args in
-    let m = a .image .now in
-    let ok = c .before .before .before .before .before .before .before .pre in
-    let r = number-in (c .before .before .before .before .before .before .before .args .slot) (sym (c .before .before .before .before .slot-number-ok .ensures) ∙ not-false (c .before .before .before .before .slot-number-ok .result) (c .before .before .before .if1 .left)) in
-    not-enabled m ok (a .slot) (a .filler .now) (r .0) (r .1) (enabled-is m (a .slot - 1) (c .before .before .slot-at .result) (c .before .before .slot-at .ensures) (c .before .is-enabled .result) (c .before .is-enabled .ensures) ∙ not-true (c .before .is-enabled .result) (c .if2 .taken))
+    let t = c .before .slot-enabled in
+    let p = c .before .before in
+    refused-by (list (start-1 p)) 1 (pass-1 p) (sym (t .ensures) ∙ not-true (t .result) (c .if2 .taken))
+
+sub-other-enabled : tie.Need-sub-other-enabled
+sub-other-enabled c = omega (arith, number-in (start-2 c .args .slot) (number-ok (c .before .before)) .0)
+
+cast-other-enabled : tie.Need-cast-other-enabled
+cast-other-enabled c = search needs
 
 other-enabled-requires : tie.Need-other-enabled-requires
-other-enabled-requires c κs = let r = number-in (c .before .before .before .before .before .before .before .args .slot) (sym (c .before .before .before .before .slot-number-ok .ensures) ∙ not-false (c .before .before .before .before .slot-number-ok .result) (c .before .before .before .if1 .left)) in (sound aesXtsSha1 (c .before .before .before .before .before .before .before .args .image .now) (c .before .before .before .before .before .before .before .pre) .size, omega arith)
+other-enabled-requires c κs =
+    let s = start-2 c in
+    let r = number-in (s .args .slot) (number-ok (c .before .before)) in
+    (sound (s .args .image .now) (s .pre) .size, omega (arith, r .0, r .1))
+
+filler-ok-requires : tie.Need-filler-ok-requires
+filler-ok-requires c κs = let p = c .before in (start-2 p .pre, number-ok (p .before .before))
 
 returns-3 : tie.Need-returns-3
+unfolding earlyChecks
 returns-3 c =
-    let a = c .before .before .before .before .before .before .before .before .before .args in
-    let m = a .image .now in
-    let ok = c .before .before .before .before .before .before .before .before .before .pre in
-    let r = number-in (c .before .before .before .before .before .before .before .before .before .args .slot) (sym (c .before .before .before .before .before .before .slot-number-ok .ensures) ∙ not-false (c .before .before .before .before .before .before .slot-number-ok .result) (c .before .before .before .before .before .if1 .left)) in
-    last-slot m ok (a .slot) (a .filler .now) (r .0) (r .1) (enabled-is m (a .slot - 1) (c .before .before .before .before .slot-at .result) (c .before .before .before .before .slot-at .ensures) (c .before .before .before .is-enabled .result) (c .before .before .before .is-enabled .ensures) ∙ not-false (c .before .before .before .is-enabled .result) (c .before .before .if2 .left))
-    (sym (c .before .other-enabled .ensures) ∙ not-true (c .before .other-enabled .result) (c .if3 .taken))
-
-be32-at-requires : tie.Need-be32-at-requires
-be32-at-requires c κs = omega (arith, sound aesXtsSha1 (c .before .before .before .before .before .before .before .before .before .args .image .now) (c .before .before .before .before .before .before .before .before .before .pre) .size)
-
-cast-key-bytes : tie.Need-cast-key-bytes
-cast-key-bytes c = search needs
-
-cast-if4 : tie.Need-cast-if4
-cast-if4 c = search needs
-
-mul-if4 : tie.Need-mul-if4
-mul-if4 c =
-    let r = number-in (c .before .before .before .before .before .before .before .before .before .before .before .args .slot) (sym (c .before .before .before .before .before .before .before .before .slot-number-ok .ensures) ∙ not-false (c .before .before .before .before .before .before .before .before .slot-number-ok .result) (c .before .before .before .before .before .before .before .if1 .left)) in
-    let m = c .before .before .before .before .before .before .before .before .before .before .before .args .image .now in
-    let s = sound aesXtsSha1 m (c .before .before .before .before .before .before .before .before .before .before .before .pre) in
-    let k = s .slot (c .before .before .before .before .before .before .before .before .before .before .before .args .slot - 1) (omega arith) in
-    omega (arith, stripes-fit (c .before .before .before .before .before .before .slot-at .result .stripes) (c .before .be32-at .result) (omega (arith, c .before .before .before .before .before .before .slot-at .ensures .stripes-is, k .stripes-most)) (omega (arith, c .before .be32-at .ensures, s .row .most)))
+    let t = c .before .before .other-enabled in
+    let p = c .before .before .before in
+    refused-by (list (start-2 p)) 2 (pass-2 p) (sym (t .ensures) ∙ not-true (t .result) (c .if3 .taken))
 
 returns-4 : tie.Need-returns-4
+unfolding earlyChecks
 returns-4 c =
-    let a = c .before .before .before .before .before .before .before .before .before .before .before .before .args in
-    let m = a .image .now in
-    let ok = c .before .before .before .before .before .before .before .before .before .before .before .before .pre in
-    let r = number-in (c .before .before .before .before .before .before .before .before .before .before .before .before .args .slot) (sym (c .before .before .before .before .before .before .before .before .before .slot-number-ok .ensures) ∙ not-false (c .before .before .before .before .before .before .before .before .before .slot-number-ok .result) (c .before .before .before .before .before .before .before .before .if1 .left)) in
-    let n = c .before .before .before .before .before .before .before .slot-at .ensures .stripes-is in
-    let k = c .before .before .be32-at .ensures in
-    let e : c .before .before .before .before .before .before .before .slot-at .result .stripes * c .before .before .be32-at .result ≡ slotIn m (a .slot - 1) .stripes * quadAt m 108 = ap₂ _*_ n k in
-    bad-filler m ok (a .slot) (a .filler .now) (r .0) (r .1) (enabled-is m (a .slot - 1) (c .before .before .before .before .before .before .before .slot-at .result) (c .before .before .before .before .before .before .before .slot-at .ensures) (c .before .before .before .before .before .before .is-enabled .result) (c .before .before .before .before .before .before .is-enabled .ensures) ∙ not-false (c .before .before .before .before .before .before .is-enabled .result) (c .before .before .before .before .before .if2 .left))
-    (sym (c .before .before .before .before .other-enabled .ensures) ∙ not-false (c .before .before .before .before .other-enabled .result) (c .before .before .before .if3 .left))
-    (ne-eqb (length (a .filler .now)) (slotIn m (a .slot - 1) .stripes * quadAt m 108) (λ (q : length (a .filler .now) ≡ slotIn m (a .slot - 1) .stripes * quadAt m 108). c .if4 .taken (q ∙ sym e)))
+    let t = c .before .before .filler-ok in
+    let p = c .before in
+    refused-by (list (start-3 p)) 3 (pass-3 p) (sym (t .ensures) ∙ not-true (t .result) (c .if4 .taken))
 
 returns-5 : tie.Need-returns-5
+unfolding earlyChecks
 returns-5 c =
-    let a = c .before .before .before .before .before .before .before .before .before .before .before .before .args in
-    let m = a .image .now in
-    let ok = c .before .before .before .before .before .before .before .before .before .before .before .before .pre in
-    let r = number-in (c .before .before .before .before .before .before .before .before .before .before .before .before .args .slot) (sym (c .before .before .before .before .before .before .before .before .before .slot-number-ok .ensures) ∙ not-false (c .before .before .before .before .before .before .before .before .before .slot-number-ok .result) (c .before .before .before .before .before .before .before .before .if1 .left)) in
-    let n = c .before .before .before .before .before .before .before .slot-at .ensures .stripes-is in
-    let k = c .before .before .be32-at .ensures in
-    let e : c .before .before .before .before .before .before .before .slot-at .result .stripes * c .before .before .be32-at .result ≡ slotIn m (a .slot - 1) .stripes * quadAt m 108 = ap₂ _*_ n k in
-    all-hold m ok (a .slot) (a .filler .now) (r .0) (r .1) (enabled-is m (a .slot - 1) (c .before .before .before .before .before .before .before .slot-at .result) (c .before .before .before .before .before .before .before .slot-at .ensures) (c .before .before .before .before .before .before .is-enabled .result) (c .before .before .before .before .before .before .is-enabled .ensures) ∙ not-false (c .before .before .before .before .before .before .is-enabled .result) (c .before .before .before .before .before .if2 .left))
-    (sym (c .before .before .before .before .other-enabled .ensures) ∙ not-false (c .before .before .before .before .other-enabled .result) (c .before .before .before .if3 .left))
-    (eq-eqb (length (a .filler .now)) (slotIn m (a .slot - 1) .stripes * quadAt m 108) (c .if4 .left ∙ e))
+    let t = c .before .before .filler-ok in
+    let p = pass-3 (c .before) in
+    all-pass (list (start-4 c)) (p .0, (p .1 .0, (p .1 .1 .0, (sym (t .ensures) ∙ not-false (t .result) (c .if4 .left), tt))))
 
 pub revoke-check-spec : {M : Type 1} → statement M
 revoke-check-spec =
@@ -107,16 +113,12 @@ revoke-check-spec =
     (tie.spec
     slot-number-ok-requires
     returns
-    sub-k
-    cast-k
-    slot-at-requires
-    is-enabled-requires
+    slot-enabled-requires
     returns-2
+    sub-other-enabled
+    cast-other-enabled
     other-enabled-requires
+    filler-ok-requires
     returns-3
-    be32-at-requires
-    cast-key-bytes
-    cast-if4
-    mul-if4
     returns-4
     returns-5)

@@ -23,11 +23,11 @@ loop-holds : tie.Need-loop-holds Inv-loop μ-loop
 unfolding diffuse
 loop-holds c = (omega arith, omega arith, refl, refl)
 
-sub-least : tie.Need-sub-least Inv-loop μ-loop
-sub-least c = search needs
+sub-min : tie.Need-sub-min Inv-loop μ-loop
+sub-min c = search needs
 
-least-requires : tie.Need-least-requires Inv-loop μ-loop
-least-requires c κs = search needs
+min-requires : tie.Need-min-requires Inv-loop μ-loop
+min-requires c κs = search needs
 
 add-e : tie.Need-add-e Inv-loop μ-loop
 add-e c = search needs
@@ -50,14 +50,14 @@ array-share-prefix-h c = search needs
 slice-aggregate-copy-into : tie.Need-slice-aggregate-copy-into Inv-loop μ-loop
 slice-aggregate-copy-into c =
     let h = c .before .before .numbered-digest .result in
-    let n = c .before .before .before .before .before .least in
+    let n = c .before .before .before .before .before .min in
     let l : length h ≡ 20 = search needs in
     sym (length-take-le (n .result) h (omega (arith, n .ensures)))
 
 copy-into-requires : tie.Need-copy-into-requires Inv-loop μ-loop
 copy-into-requires c κs =
     let h = c .before .before .numbered-digest .result in
-    let n = c .before .before .before .before .before .least in
+    let n = c .before .before .before .before .before .min in
     let l : length h ≡ 20 = search needs in
     let k = length-take-le (n .result) h (omega (arith, n .ensures)) in
     omega (arith, k, n .ensures)
@@ -72,7 +72,7 @@ loop-again : tie.Need-loop-again Inv-loop μ-loop
 loop-again c =
     let l = c .before .before .before .before .before .before .before .before .before .before .loop in
     let s₀ = c .before .before .before .before .before .before .before .before .before .before .before .before .args .d .now in
-    let n = c .before .before .before .before .before .before .before .before .least in
+    let n = c .before .before .before .before .before .before .before .before .min in
     let h = c .before .before .before .before .before .numbered-digest in
     let s′ = c .before .before .copy-into .last .0 in (
       omega (arith, n .ensures),
@@ -97,8 +97,8 @@ diffuse-pieces-spec =
     Inv-loop
     μ-loop
     loop-holds
-    sub-least
-    least-requires
+    sub-min
+    min-requires
     add-e
     sub-numbered-digest
     part-numbered-digest-start

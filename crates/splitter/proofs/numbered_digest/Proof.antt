@@ -5,7 +5,7 @@ use native.Mathlib.Omega.{arith}
 use lib.ListN.{length}
 use lib.Seq.{length-take-le}
 use borrow.Author.Needs.{needs}
-use Rattle.octets.specs.Octets.{bigEndian}
+use Rattle.octets.specs.Octets.{be32}
 use Rattle.octets.proofs.OctetsLaws.{length-bigEndian}
 use Rattle.sha1.specs.Sha1.{hash, sha1}
 use Rattle.splitter.proofs.DiffuseLaws.{put-two}
@@ -53,11 +53,13 @@ sha1-requires c κs =
 
 returns : tie.Need-returns
 returns c =
-    let P = c .before .before .before .before .before .before .before .before .before .before .before .args .piece .now in
-    let n = c .before .before .before .before .before .before .before .before .before .before .before .args .number in
+    let second = c .before .before .before in
+    let first = second .before .before .before in
+    let made = first .before .before .before in
+    let a = made .before .before .args in
     c .sha1 .ensures
-    ∙ ap hash (put-two _ (bigEndian 4 n) _ P (c .before .before .before .before .before .before .copy-into .last .0) (c .before .before .before .copy-into2 .last .0) 4 (length-bigEndian 4 n)
-    (c .before .before .before .before .before .before .before .before .before .be32 .ensures) (c .before .before .before .before .before .before .copy-into .ensures) (c .before .before .before .copy-into2 .ensures))
+    ∙ ap hash (put-two _ (be32 (a .number)) _ (a .piece .now) (first .copy-into .last .0) (second .copy-into2 .last .0) 4 (length-bigEndian 4 (a .number))
+    (made .be32 .ensures) (first .copy-into .ensures) (second .copy-into2 .ensures))
 
 pub numbered-digest-spec : {M : Type 1} → statement M
 numbered-digest-spec =

@@ -29,11 +29,11 @@ loop-holds c = (omega arith, omega arith, refl, λ f g. from-first f (c .before 
 tweak-at-requires : tie.Need-tweak-at-requires Inv-loop μ-loop
 tweak-at-requires c κs = search needs
 
-sub-least : tie.Need-sub-least Inv-loop μ-loop
-sub-least c = search needs
+sub-min : tie.Need-sub-min Inv-loop μ-loop
+sub-min c = search needs
 
-least-requires : tie.Need-least-requires Inv-loop μ-loop
-least-requires c κs = search needs
+min-requires : tie.Need-min-requires Inv-loop μ-loop
+min-requires c κs = search needs
 
 add-e : tie.Need-add-e Inv-loop μ-loop
 add-e c = search needs
@@ -60,7 +60,7 @@ loop-again c =
     let l = c .before .before .before .before .before .before .before .before .loop in
     let t = c .before .before .before .before .before .before .before .before .before .first-tweaks in
     let x = c .before .before .before .before .before .tweak-at in
-    let k = c .before .before .before .before .least in
+    let k = c .before .before .before .before .min in
     let y = c .before .before .run-blocks in
     let i₀ : l .at ≤ length (a .s .now) = l .inv .0 in
     let n : length (l .s) ≡ length (a .s .now) = l .inv .2 in
@@ -93,8 +93,8 @@ run-group-spec =
     first-tweaks-requires
     loop-holds
     tweak-at-requires
-    sub-least
-    least-requires
+    sub-min
+    min-requires
     add-e
     sub-run-blocks
     part-run-blocks-start

@@ -26,11 +26,11 @@ loop-holds c = (omega arith, omega arith, refl, λ f g. from-first f (c .before 
 add-u : tie.Need-add-u Inv-loop μ-loop
 add-u c = search needs
 
-sub-least : tie.Need-sub-least Inv-loop μ-loop
-sub-least c = search needs
+sub-min : tie.Need-sub-min Inv-loop μ-loop
+sub-min c = search needs
 
-least-requires : tie.Need-least-requires Inv-loop μ-loop
-least-requires c κs = search needs
+min-requires : tie.Need-min-requires Inv-loop μ-loop
+min-requires c κs = search needs
 
 add-e : tie.Need-add-e Inv-loop μ-loop
 add-e c = search needs
@@ -55,7 +55,7 @@ loop-again c =
     let z = c .before .before .before .before .before .before .before .before .before .before in
     let a = z .args in
     let l = c .before .before .before .before .before .before .loop in
-    let k = c .before .before .before .before .least in
+    let k = c .before .before .before .before .min in
     let y = c .before .before .run-group in
     let i₀ : l .at ≤ length (a .s .now) = l .inv .0 in
     let n : length (l .s) ≡ length (a .s .now) = l .inv .2 in
@@ -85,8 +85,8 @@ run-sliced-spec =
     μ-loop
     loop-holds
     add-u
-    sub-least
-    least-requires
+    sub-min
+    min-requires
     add-e
     sub-run-group
     part-run-group-start

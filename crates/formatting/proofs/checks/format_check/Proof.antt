@@ -1,91 +1,153 @@
--- `formatting::checks::format_check` meets its contract. Each way out is a law.
-use mathlib.Core.Path.{_≡_, sym, _∙_}
-use mathlib.Core.Bool.{true, _&&_}
+-- `formatting::checks::format_check` meets its contract: what has passed stands as a fact of its place, and each way out is one check that fails behind it.
+use mathlib.Core.Path.{_≡_, sym, ap, _∙_}
+use mathlib.Core.List.{List, []}
+use mathlib.Core.Bool.{Bool, true, false, not}
+use Prim.Native.Nat.{ℕ}
 use native.Mathlib.Omega.{arith}
-use lib.Dec.{eqb, leb}
-use lib.ListN.{length}
-use borrow.Author.Tests.{leb-true, not-true, not-false}
+use lib.Dec.{leb}
+use lib.ListN.{take}
+use borrow.Author.Tests.{leb-true, eq-eqb, ne-eqb, le-leb, lt-leb, not-true, not-false}
 use borrow.Author.Needs.{needs}
 use Rattle.octets.proofs.BoolLaws.{and-split}
-use Rattle.rules.specs.Profiles.{known}
-use Rattle.rules.specs.Header.{sizeOk}
-use Rattle.rules.specs.Format.{printable}
-use Rattle.built.specs.Built.{aesXtsSha1, built}
-use Rattle.formatting.proofs.FormatLaws.{Begun, out-1, out-7, out-8, out-9, out-10, out-11, out-12, out-0, row-built}
+use Rattle.rules.specs.Checks.{Check}
+use Rattle.rules.specs.Profiles.{profileAt}
+use Rattle.rules.specs.Layout.{payloadStart}
+use Rattle.rules.specs.Format.{formatInput, formatChecks}
+use Rattle.rules.proofs.ChecksLaws.{Pass, refused-by, all-pass, pass-next}
+use Rattle.rules.proofs.RowLaws.{lawful-row}
+use Rattle.profiles.specs.Rows.{rows}
+use Rattle.profiles.specs.Suites.{built}
+use Rattle.profiles.proofs.Lawful.{rows-ok}
 use Rattle.formatting.proofs.checks.format_check.Statement.{statement}
 use Rattle.formatting.proofs.checks.format_check.Tie as tie
 
-sized : (c : tie.Else1) → sizeOk (c .before .before .before .before .before .args .image .now) ≡ true
-sized c = sym (c .before .size-ok .ensures) ∙ not-false (c .before .size-ok .result) (c .if1 .left)
+-- the checks of the call's arguments, with any salt
+abbrev checks : tie.Start → List ℕ → List Check
+checks z salt =
+    let a = z .args in
+    formatChecks built (formatInput (a .profile) (a .stripes) (a .key .now) salt (a .count) (a .uuid .now)) (a .image .now)
 
-is-in-table : (c : tie.Else2) → known built (c .before .before .before .before .before .before .before .args .profile) ≡ true
-is-in-table c = sym (c .before .is-known .ensures aesXtsSha1) ∙ not-false (c .before .is-known .result) (c .if2 .left)
+-- a test b that a function returned as r: it holds where the code goes on behind `!r`, and fails where the code returns
+holds : {r b : Bool} → r ≡ b → not r ≡ false → b ≡ true
+holds {r} e n = sym e ∙ not-false r n
 
-begun : (c : tie.Else3) → Begun (c .before .before .before .before .before .before .before .before .before .args .image .now) (c .before .before .before .before .before .before .before .before .before .args .profile) (c .before .before .before .before .before .before .before .before .before .args .stripes)
-begun c = record { size-ok = sized (c .before .before .before .before); profile-known = is-in-table (c .before .before); stripes-ok = sym (c .before .stripes-ok .ensures) ∙ not-false (c .before .stripes-ok .result) (c .if3 .left) }
+fails : {r b : Bool} → r ≡ b → not r ≡ true → b ≡ false
+fails {r} e n = sym e ∙ not-true r n
 
-named : (c : tie.Else6) → let u = c .before .before .before .before .before .before .before .before .before .before .before .before .before .before .before .args .uuid .now in (eqb (length u) 36 && printable u) ≡ true
-named c = sym (c .before .uuid-ok .ensures) ∙ not-false (c .before .uuid-ok .result) (c .if6 .left)
+-- ---- places: the call, behind each test; the row
+
+abbrev start₁ : tie.Else1 → tie.Start
+start₁ c = c .before .before .before .before .before
+
+abbrev start₂ : tie.Else2 → tie.Start
+start₂ c = start₁ (c .before .before)
+
+abbrev start₃ : tie.Else3 → tie.Start
+start₃ c = start₂ (c .before .before)
+
+abbrev start₄ : tie.Else4 → tie.Start
+start₄ c = start₃ (c .before .before .before)
+
+abbrev start₅ : tie.Else5 → tie.Start
+start₅ c = start₄ (c .before)
+
+abbrev start₆ : tie.Else6 → tie.Start
+start₆ c = start₅ (c .before .before)
+
+abbrev row : tie.Else6 → tie.After-profile-at
+row c = c .before .before .before .before .before
+
+-- ---- what has passed at each
+
+passed₁ : (c : tie.Else1) (salt : List ℕ) → Pass (take 1 (checks (start₁ c) salt))
+unfolding formatChecks
+passed₁ c salt = (holds (c .before .size-ok .ensures) (c .if1 .left), tt)
+
+passed₂ : (c : tie.Else2) (salt : List ℕ) → Pass (take 2 (checks (start₂ c) salt))
+unfolding formatChecks
+passed₂ c salt = pass-next (checks (start₂ c) salt) 1 (passed₁ (c .before .before) salt) (holds (c .before .is-known .ensures) (c .if2 .left))
+
+passed₃ : (c : tie.Else3) (salt : List ℕ) → Pass (take 3 (checks (start₃ c) salt))
+unfolding formatChecks
+passed₃ c salt = pass-next (checks (start₃ c) salt) 2 (passed₂ (c .before .before) salt) (holds (c .before .stripes-ok .ensures) (c .if3 .left))
+
+passed₄ : (c : tie.Else4) (salt : List ℕ) → Pass (take 4 (checks (start₄ c) salt))
+unfolding formatChecks
+passed₄ c salt =
+    let p = c .before .before in
+    pass-next (checks (start₄ c) salt) 3 (passed₃ (p .before) salt) (eq-eqb _ _ (c .if4 .left ∙ p .profile-at .ensures .key-is))
+
+passed₅ : (c : tie.Else5) (salt : List ℕ) → Pass (take 5 (checks (start₅ c) salt))
+unfolding formatChecks
+passed₅ c salt =
+    let p = c .before .before .before in
+    pass-next (checks (start₅ c) salt) 4 (passed₄ (c .before) salt) (le-leb _ _ (rw (p .profile-at .ensures .checksum-count-is) at (c .if5 .left)))
+
+passed₆ : (c : tie.Else6) (salt : List ℕ) → Pass (take 6 (checks (start₆ c) salt))
+unfolding formatChecks
+passed₆ c salt = pass-next (checks (start₆ c) salt) 5 (passed₅ (c .before .before) salt) (holds (c .before .uuid-ok .ensures) (c .if6 .left))
+
+-- the payload's start is that of the rules' row
+payload-is : (c : tie.After-payload-start)
+    → let a = start₆ (c .before) .args in c .payload-start .result .0 ≡ payloadStart (a .stripes) (profileAt rows (a .profile) .keyBytes)
+payload-is c = c .payload-start .ensures .0 ∙ ap (payloadStart (start₆ (c .before) .args .stripes)) (row (c .before) .profile-at .ensures .key-is)
+
+-- ---- the needs
 
 size-ok-requires : tie.Need-size-ok-requires
 size-ok-requires c κs = search needs
 
 returns : tie.Need-returns
-returns c = λ salt. let z = c .before .before .before .before .before .args in out-1 (z .image .now) (z .profile) (z .stripes) (z .key .now) salt (z .count) (z .uuid .now) (sym (c .before .size-ok .ensures) ∙ not-true (c .before .size-ok .result) (c .if1 .taken))
+unfolding formatChecks
+returns c salt = refused-by _ 0 tt (fails (c .before .size-ok .ensures) (c .if1 .taken))
 
 is-known-requires : tie.Need-is-known-requires
 is-known-requires c κs = search needs
 
 returns-2 : tie.Need-returns-2
-returns-2 c = λ salt.
-    let z = c .before .before .before .before .before .before .before .args in
-    out-7 (z .image .now) (z .profile) (z .stripes) (z .key .now) salt (z .count) (z .uuid .now) (sized (c .before .before)) (sym (c .before .is-known .ensures aesXtsSha1) ∙ not-true (c .before .is-known .result) (c .if2 .taken))
+unfolding formatChecks
+returns-2 c salt = refused-by _ 1 (passed₁ (c .before .before) salt) (fails (c .before .is-known .ensures) (c .if2 .taken))
 
 stripes-ok-requires : tie.Need-stripes-ok-requires
 stripes-ok-requires c κs = search needs
 
 returns-3 : tie.Need-returns-3
-returns-3 c = λ salt.
-    let z = c .before .before .before .before .before .before .before .before .before .args in
-    out-8 (z .image .now) (z .profile) (z .stripes) (z .key .now) salt (z .count) (z .uuid .now) (sized (c .before .before .before .before)) (is-in-table (c .before .before)) (sym (c .before .stripes-ok .ensures) ∙ not-true (c .before .stripes-ok .result) (c .if3 .taken))
+unfolding formatChecks
+returns-3 c salt = refused-by _ 2 (passed₂ (c .before .before) salt) (fails (c .before .stripes-ok .ensures) (c .if3 .taken))
 
 profile-at-requires : tie.Need-profile-at-requires
-profile-at-requires c κs = λ S. let d = c .before .before in sym (d .before .is-known .ensures S) ∙ not-false (d .before .is-known .result) (d .if2 .left)
+unfolding formatChecks
+profile-at-requires c κs = passed₃ c [] .1 .0
 
 cast-key-bytes : tie.Need-cast-key-bytes
 cast-key-bytes c = search needs
 
 returns-4 : tie.Need-returns-4
-returns-4 c = λ salt.
-    let s = c .before .before .before in
-    let z = s .before .before .before .before .before .before .before .before .before .args in
-    let p = c .before .before .profile-at in
-    out-9 (z .image .now) (z .profile) (z .stripes) (z .key .now) salt (z .count) (z .uuid .now) (begun s) (p .result) (p .ensures aesXtsSha1) (c .if4 .taken)
+unfolding formatChecks
+returns-4 c salt =
+    let p = c .before .before in
+    refused-by _ 3 (passed₃ (p .before) salt) (ne-eqb _ _ (λ q. c .if4 .taken (q ∙ sym (p .profile-at .ensures .key-is))))
 
 returns-5 : tie.Need-returns-5
-returns-5 c = λ salt.
-    let s = c .before .before .before .before in
-    let z = s .before .before .before .before .before .before .before .before .before .args in
-    let p = c .before .before .before .profile-at in
-    out-10 (z .image .now) (z .profile) (z .stripes) (z .key .now) salt (z .count) (z .uuid .now) (begun s) (p .result) (p .ensures aesXtsSha1) (c .before .if4 .left) (c .if5 .taken)
+unfolding formatChecks
+returns-5 c salt =
+    let p = c .before .before .before in
+    refused-by _ 4 (passed₄ (c .before) salt) (lt-leb _ _ (rw (p .profile-at .ensures .checksum-count-is) at (c .if5 .taken)))
 
 uuid-ok-requires : tie.Need-uuid-ok-requires
 uuid-ok-requires c κs = search needs
 
 returns-6 : tie.Need-returns-6
-returns-6 c = λ salt.
-    let s = c .before .before .before .before .before .before in
-    let z = s .before .before .before .before .before .before .before .before .before .args in
-    let p = c .before .before .before .before .before .profile-at in
-    out-11 (z .image .now) (z .profile) (z .stripes) (z .key .now) salt (z .count) (z .uuid .now) (begun s) (p .result) (p .ensures aesXtsSha1) (c .before .before .before .if4 .left) (c .before .before .if5 .left) (sym (c .before .uuid-ok .ensures) ∙ not-true (c .before .uuid-ok .result) (c .if6 .taken))
+unfolding formatChecks
+returns-6 c salt = refused-by _ 5 (passed₅ (c .before .before) salt) (fails (c .before .uuid-ok .ensures) (c .if6 .taken))
 
 payload-start-requires : tie.Need-payload-start-requires
+unfolding formatChecks
 payload-start-requires c κs =
-    let s = c .before .before .before .before .before .before in
-    let n = s .before .before .before .before .before .before .before .before .before .args .stripes in
-    let k = s .before .before .before .before .before .before .before .before .before .args .profile in (
-      leb-true n 4000 (and-split (leb 1 n) (leb n 4000) (begun s .stripes-ok) .1),
-      omega (arith, c .before .before .before .before .before .profile-at .ensures aesXtsSha1 .key-is, row-built k (begun s .profile-known) .key-most),
+    let a = start₆ c .args in
+    let p = passed₆ c [] in (
+      leb-true _ _ (and-split (leb 1 (a .stripes)) (leb (a .stripes) 4000) (p .1 .1 .0) .1),
+      omega (arith, row c .profile-at .ensures .key-is, lawful-row rows rows-ok (a .profile) (p .1 .0) .key-most),
     )
 
 cast-if7 : tie.Need-cast-if7
@@ -95,18 +157,16 @@ mul-if7 : tie.Need-mul-if7
 mul-if7 c = search needs
 
 returns-7 : tie.Need-returns-7
-returns-7 c = λ salt.
-    let s = c .before .before .before .before .before .before .before .before .before in
-    let z = s .before .before .before .before .before .before .before .before .before .args in
-    let p = c .before .before .before .before .before .before .before .before .profile-at in
-    out-12 (z .image .now) (z .profile) (z .stripes) (z .key .now) salt (z .count) (z .uuid .now) (begun s) (p .result) (p .ensures aesXtsSha1) (c .before .before .before .before .before .before .if4 .left) (c .before .before .before .before .before .if5 .left) (named (c .before .before .before)) (c .before .before .payload-start .result .0) (c .before .before .payload-start .ensures .0) (c .if7 .taken)
+unfolding formatChecks
+returns-7 c salt =
+    let p = c .before .before in
+    refused-by _ 6 (passed₆ (p .before) salt) (lt-leb _ _ (rw (payload-is p) at (c .if7 .taken)))
 
 returns-8 : tie.Need-returns-8
-returns-8 c = λ salt.
-    let s = c .before .before .before .before .before .before .before .before .before in
-    let z = s .before .before .before .before .before .before .before .before .before .args in
-    let p = c .before .before .before .before .before .before .before .before .profile-at in
-    out-0 (z .image .now) (z .profile) (z .stripes) (z .key .now) salt (z .count) (z .uuid .now) (begun s) (p .result) (p .ensures aesXtsSha1) (c .before .before .before .before .before .before .if4 .left) (c .before .before .before .before .before .if5 .left) (named (c .before .before .before)) (c .before .before .payload-start .result .0) (c .before .before .payload-start .ensures .0) (c .if7 .left)
+unfolding formatChecks
+returns-8 c salt =
+    let p = c .before .before in
+    all-pass _ (pass-next (checks (start₆ (p .before)) salt) 6 (passed₆ (p .before) salt) (le-leb _ _ (rw (payload-is p) at (c .if7 .left))))
 
 pub format-check-spec : {M : Type 1} → statement M
 format-check-spec =

@@ -1,7 +1,5 @@
 -- `formatting::fields::put_be32` meets its contract.
 use mathlib.Core.Path.{ap, _∙_}
-use mathlib.Core.List.{List}
-use Prim.Native.Nat.{ℕ}
 use borrow.Author.Needs.{needs}
 use Rattle.octets.specs.Splice.{splice}
 use Rattle.formatting.proofs.fields.put_be32.Statement.{statement}
@@ -21,8 +19,10 @@ same-length c = search needs
 
 returns : tie.Need-returns
 returns c =
-    let a = c .before .before .before .before .before .before .before .args in
-    c .before .before .copy-into .ensures ∙ ap (λ (x : List ℕ). splice (a .h .now) (a .at) x) (c .before .before .before .before .before .be32 .ensures)
+    let w = c .before .before in
+    let b = w .before .before .before in
+    let a = b .before .before .args in
+    w .copy-into .ensures ∙ ap (splice (a .h .now) (a .at)) (b .be32 .ensures)
 
 pub put-be32-spec : {M : Type 1} → statement M
 put-be32-spec =

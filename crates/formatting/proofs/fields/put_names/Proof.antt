@@ -1,14 +1,14 @@
 -- `formatting::fields::put_names` meets its contract.
-use mathlib.Core.Path.{_≡_}
+use mathlib.Core.Path.{refl}
 use native.Mathlib.Omega.{arith}
-use lib.ListN.{length}
 use borrow.Author.Needs.{needs}
-use Rattle.formatting.proofs.FieldsLaws.{names-written}
+use Rattle.octets.proofs.PartsLaws.{Widths}
+use Rattle.formatting.proofs.FieldsLaws.{in-order, names, nameWidths}
 use Rattle.formatting.proofs.fields.put_names.Statement.{statement}
 use Rattle.formatting.proofs.fields.put_names.Tie as tie
 
-lengths : (s : tie.Start) → (length (s .args .p .cipher) ≡ 32) × (length (s .args .p .mode) ≡ 32) × (length (s .args .p .hash) ≡ 32)
-lengths s = (search needs, search needs, search needs)
+widths : (z : tie.Start) → Widths (names (z .args .p)) nameWidths
+widths z = (refl, (refl, (search needs, (search needs, (search needs, tt)))))
 
 slice-aggregate-copy-into : tie.Need-slice-aggregate-copy-into
 slice-aggregate-copy-into c = search needs
@@ -26,19 +26,19 @@ slice-aggregate-copy-into-3 : tie.Need-slice-aggregate-copy-into-3
 slice-aggregate-copy-into-3 c = search needs
 
 copy-into-requires-3 : tie.Need-copy-into-requires-3
-copy-into-requires-3 c κs = omega (arith, lengths (c .before .before .before .before .before .before .before .before .before .before .before .before .before .before .before .before) .0)
+copy-into-requires-3 c κs = omega (arith, slice-aggregate-copy-into-3 c)
 
 slice-aggregate-copy-into-4 : tie.Need-slice-aggregate-copy-into-4
 slice-aggregate-copy-into-4 c = search needs
 
 copy-into-requires-4 : tie.Need-copy-into-requires-4
-copy-into-requires-4 c κs = omega (arith, lengths (c .before .before .before .before .before .before .before .before .before .before .before .before .before .before .before .before .before .before .before .before .before) .1)
+copy-into-requires-4 c κs = omega (arith, slice-aggregate-copy-into-4 c)
 
 slice-aggregate-copy-into-5 : tie.Need-slice-aggregate-copy-into-5
 slice-aggregate-copy-into-5 c = search needs
 
 copy-into-requires-5 : tie.Need-copy-into-requires-5
-copy-into-requires-5 c κs = omega (arith, lengths (c .before .before .before .before .before .before .before .before .before .before .before .before .before .before .before .before .before .before .before .before .before .before .before .before .before .before) .2)
+copy-into-requires-5 c κs = omega (arith, slice-aggregate-copy-into-5 c)
 
 same-length : tie.Need-same-length
 same-length c = search needs
@@ -51,10 +51,8 @@ returns c =
     let c₂ = c₃ .before .before .before .before .before in
     let c₁ = c₂ .before .before .before .before .before in
     let z = c₁ .before .before .before .before .before .before .before in
-    let l = lengths z in
-    let p = z .args .p in
-    names-written (p .cipher) (p .mode) (p .hash) (l .0) (l .1) (l .2) _ _ _ _ _ _ (z .pre)
-    (c₁ .copy-into .ensures) (c₂ .copy-into2 .ensures) (c₃ .copy-into3 .ensures) (c₄ .copy-into4 .ensures) (c₅ .copy-into5 .ensures)
+    rw (c₅ .copy-into5 .ensures, c₄ .copy-into4 .ensures, c₃ .copy-into3 .ensures, c₂ .copy-into2 .ensures, c₁ .copy-into .ensures)
+    (in-order (names (z .args .p)) nameWidths (widths z) (z .args .h .now) 0 (omega arith))
 
 pub put-names-spec : {M : Type 1} → statement M
 put-names-spec =

@@ -1,23 +1,14 @@
 -- `formatting::fields::put_numbers` meets its contract.
-use mathlib.Core.Path.{_≡_, _∙_}
-use mathlib.Core.List.{[], _∷_}
+use Prim.Native.Nat.{_≤_}
+use native.Mathlib.Omega.{arith}
 use lib.ListN.{length}
 use borrow.Author.Needs.{needs}
-use Rattle.octets.specs.Octets.{bigEndian}
-use Rattle.octets.specs.Splice.{splice}
-use Rattle.rules.specs.Format.{concat}
-use Rattle.formatting.proofs.FieldsLaws.{numbers-written}
+use Rattle.octets.specs.Octets.{padded}
+use Rattle.octets.proofs.OctetsLaws.{length-padded}
+use Rattle.rules.specs.Layout.{payloadStart}
+use Rattle.formatting.proofs.FieldsLaws.{in-order, numberWidths, number-widths}
 use Rattle.formatting.proofs.fields.put_numbers.Statement.{statement}
 use Rattle.formatting.proofs.fields.put_numbers.Tie as tie
-
-sum-length : (s : tie.After-copy-into-arg2) → length (s .before .before .before .before .before .before .before .before .before .before .before .before .before .before .args .sum .now) ≡ 20
-sum-length s = search needs
-
-salt-length : (s : tie.After-copy-into-arg4) → length (s .before .before .before .before .before .before .before .before .before .before .before .before .before .before .before .before .before .before .before .args .salt .now) ≡ 32
-salt-length s = search needs
-
-field-length : (s : tie.After-uuid-field) → length (s .uuid-field .result) ≡ 40
-field-length s = search needs
 
 uuid-field-requires : tie.Need-uuid-field-requires
 uuid-field-requires c κs = search needs
@@ -54,20 +45,25 @@ returns c =
     let c₆ = c .before .before in
     let c₅ = c₆ .before .before .before .before .before in
     let c₄ = c₅ .before .before .before .before in
-    let t = c₄ .before in
-    let c₃ = t .before .before .before .before in
-    let s = c₃ .before in
-    let c₂ = s .before .before .before .before in
+    let c₃ = c₄ .before .before .before .before .before in
+    let c₂ = c₃ .before .before .before .before .before in
     let c₁ = c₂ .before .before .before .before in
     let p = c₁ .before .before in
-    let u = p .before in
-    let z = u .before .before .before in
+    let z = p .before .before .before .before in
     let a = z .args in
-    let start = p .payload-start in
-    let field = u .uuid-field in
-    numbers-written (start .result .0) (a .key-bytes) (a .count) (a .sum .now) (a .salt .now) (field .result) (sum-length s) (salt-length t) (field-length u) _ _ _ _ _ _ _ (z .pre .0)
-    (c₁ .put-be32 .ensures) (c₂ .put-be322 .ensures) (c₃ .copy-into .ensures) (c₄ .copy-into2 .ensures) (c₅ .put-be323 .ensures) (c₆ .copy-into3 .ensures)
-    ∙ (λ i. splice (a .h .now) 104 (concat (bigEndian 4 (start .ensures .0 i) ∷ bigEndian 4 (a .key-bytes) ∷ a .sum .now ∷ a .salt .now ∷ bigEndian 4 (a .count) ∷ field .ensures i ∷ [])))
+    let u : length (a .uuid .now) ≤ 40 = omega (arith, z .pre .3) in
+    let w = number-widths (payloadStart (a .stripes) (a .key-bytes)) (a .key-bytes) (a .sum .now) (a .salt .now) (a .count) (padded 40 (a .uuid .now))
+    (c₃ .before .copy-into-arg2 .given .0) (c₄ .before .copy-into-arg4 .given .0) (length-padded 40 (a .uuid .now) u) in
+    rw (
+      c₆ .copy-into3 .ensures,
+      c₅ .put-be323 .ensures,
+      c₄ .copy-into2 .ensures,
+      c₃ .copy-into .ensures,
+      c₂ .put-be322 .ensures,
+      c₁ .put-be32 .ensures,
+      p .payload-start .ensures .0,
+      p .before .uuid-field .ensures,
+    ) (in-order _ numberWidths w (a .h .now) 104 (omega arith))
 
 pub put-numbers-spec : {M : Type 1} → statement M
 put-numbers-spec =

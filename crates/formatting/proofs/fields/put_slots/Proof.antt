@@ -1,42 +1,29 @@
--- `formatting::fields::put_slots` meets its contract. The invariant says that the first k records stand.
-use mathlib.Core.Path.{_≡_, ap, _∙_}
-use mathlib.Core.List.{map}
-use Prim.Native.Nat.{_+_, _-_, _*_, _≤_}
+-- `formatting::fields::put_slots` meets its contract. The invariant says that the records from k on, written now, complete what is to be written.
+use mathlib.Core.Path.{_≡_, refl, sym, ap₂, _∙_}
+use mathlib.Core.List.{List}
+use Prim.Native.Nat.{ℕ, _+_, _-_, _*_, _≤_}
 use native.Mathlib.Omega.{arith}
-use lib.ListN.{length, take}
+use lib.ListN.{length}
 use borrow.Author.Needs.{needs}
-use Rattle.octets.specs.Octets.{zeros}
 use Rattle.octets.specs.Splice.{splice}
-use Rattle.rules.specs.Layout.{slots}
-use Rattle.rules.specs.Facts.{disabled}
-use Rattle.octets.proofs.OctetsLaws.{length-zeros}
-use Rattle.rules.specs.Format.{concat, slotRecord}
-use Rattle.rules.proofs.FormatLaws.{length-slotRecord}
-use Rattle.formatting.proofs.FieldsLaws.{record-none, record-next}
+use Rattle.formatting.proofs.FieldsLaws.{blank, completed, record-next, records-end}
 use Rattle.formatting.proofs.fields.put_slots.Statement.{statement}
 use Rattle.formatting.proofs.fields.put_slots.Tie as tie
 
 abbrev Inv-loop : tie.InvT-loop
-Inv-loop h₀ stripes key-bytes k₀ h k =
-    (k ≤ 8) × (length h ≡ 592) × (h ≡ splice h₀ 208 (concat (map (slotRecord stripes key-bytes disabled 0 (zeros 32)) (take k slots))))
+Inv-loop h₀ stripes key-bytes k₀ h k = (k ≤ 8) × (length h ≡ 592) × (completed stripes key-bytes h k ≡ completed stripes key-bytes h₀ 0)
 
 abbrev μ-loop : tie.MeasureT-loop
 μ-loop h₀ stripes key-bytes k₀ h k = 8 - k
 
 loop-holds : tie.Need-loop-holds Inv-loop μ-loop
-loop-holds c =
-    let a = c .before .args in
-    let l : length (a .h .now) ≡ 592 = search needs in
-    (omega arith, l, record-none (slotRecord (a .stripes) (a .key-bytes) disabled 0 (zeros 32)) (a .h .now))
+loop-holds c = (omega arith, search needs, refl)
 
 slot-record-requires : tie.Need-slot-record-requires Inv-loop μ-loop
 slot-record-requires c κs = search needs
 
-mul-copy-into : tie.Need-mul-copy-into Inv-loop μ-loop
-mul-copy-into c = search needs
-
-add-copy-into : tie.Need-add-copy-into Inv-loop μ-loop
-add-copy-into c = search needs
+record-at-requires : tie.Need-record-at-requires Inv-loop μ-loop
+record-at-requires c κs = search needs
 
 slice-aggregate-copy-into : tie.Need-slice-aggregate-copy-into Inv-loop μ-loop
 slice-aggregate-copy-into c = search needs
@@ -52,16 +39,15 @@ loop-less c = search needs
 
 loop-again : tie.Need-loop-again Inv-loop μ-loop
 loop-again c =
-    let a = c .before .before .before .before .before .before .before .before .before .args in
-    let l = c .before .before .before .before .before .before .before .loop in
-    let w = c .before .before .copy-into in
-    let f = slotRecord (a .stripes) (a .key-bytes) disabled 0 (zeros 32) in
-    let n : length (w .last .0) ≡ 592 = search needs in (
-      omega arith,
-      n,
-      w .ensures ∙ ap (splice (l .h) (208 + l .k * 48)) (c .before .before .before .before .before .slot-record .ensures)
-          ∙ record-next f (λ j. length-slotRecord (a .stripes) (a .key-bytes) disabled 0 (zeros 32) j (length-zeros 32)) (a .h .now) (l .h) (l .k) (omega arith) (omega arith) (l .inv .2),
-    )
+    let w = c .before .before in
+    let at = w .before .before in
+    let r = at .before .before in
+    let l = r .before .before .loop in
+    let a = r .before .before .before .before .args in
+    let n : length (w .copy-into .last .0) ≡ 592 = search needs in
+    let e : w .copy-into .last .0 ≡ splice (l .h) (208 + l .k * 48) (blank (a .stripes) (a .key-bytes) (l .k))
+    = w .copy-into .ensures ∙ ap₂ (λ (o : ℕ) (b : List ℕ). splice (l .h) o b) (at .record-at .ensures) (r .slot-record .ensures) in
+    (omega arith, n, rw e (record-next (a .stripes) (a .key-bytes) (l .h) (l .k) (omega arith) (omega arith)) ∙ l .inv .2)
 
 same-length : tie.Need-same-length Inv-loop μ-loop
 same-length c = search needs
@@ -69,8 +55,9 @@ same-length c = search needs
 returns : tie.Need-returns Inv-loop μ-loop
 returns c =
     let l = c .before .loop in
+    let a = c .before .before .before .args in
     let e : l .k ≡ 8 = omega arith in
-    rw e at (l .inv .2)
+    sym (records-end (a .stripes) (a .key-bytes) (l .h)) ∙ rw e at (l .inv .2)
 
 pub put-slots-spec : {M : Type 1} → statement M
 put-slots-spec =
@@ -80,8 +67,7 @@ put-slots-spec =
     μ-loop
     loop-holds
     slot-record-requires
-    mul-copy-into
-    add-copy-into
+    record-at-requires
     slice-aggregate-copy-into
     copy-into-requires
     add-k

@@ -29,8 +29,13 @@ put-be32-requires-3 c κs = search needs
 returns : tie.Need-returns
 unfolding zeros
 returns c =
-    let a = c .before .before .before .before .before .before .before .before .before .before .args in
-    record-is (a .stripes) (a .key-bytes) (a .k) _ _ _ _ (c .before .before .before .before .before .area-start .ensures .0) (c .before .before .before .before .before .before .before .before .put-be32 .ensures) (c .before .before .before .before .put-be322 .ensures) (c .before .put-be323 .ensures)
+    let c₃ = c .before in
+    let c₂ = c₃ .before .before .before in
+    let area = c₂ .before in
+    let c₁ = area .before .before .before in
+    let a = c₁ .before .before .args in
+    record-is (a .stripes) (a .key-bytes) (a .k) _ _ _ _ (area .area-start .ensures .0) (c₁ .put-be32 .ensures) (c₂ .put-be322 .ensures)
+    (c₃ .put-be323 .ensures)
 
 pub slot-record-spec : {M : Type 1} → statement M
 slot-record-spec =

@@ -1,0 +1,76 @@
+-- A list of calls as the functions make it: each returns and leaves what its contract says, on the image that the one before it left.
+use mathlib.Core.Path.{_≡_}
+use mathlib.Core.List.{List, [], _∷_, map}
+use mathlib.Core.Bool.{cond}
+use Prim.Native.Nat.{ℕ}
+use lib.Dec.{eqb}
+use Rattle.rules.specs.Calls.{Call, add, change, revoke, openSlot, openAny, read, write, Answer}
+use Rattle.rules.specs.Format.{FormatInput}
+use Rattle.rules.specs.Contracts.{Does, DoesOpen, DoesRead}
+use Rattle.profiles.specs.Suites.{built}
+use Rattle.ledger.specs.Ledger.{ledgerImage}
+use Rattle.ledger.specs.Demand3.{ledgerAnswers, lastLedger}
+
+-- what a function returned, and what it left in what it was lent
+pub data Returned : Type 0 where
+  changed : (code : ℕ) (image : List ℕ) → Returned  -- adding::add, changing::change, revoking::revoke, payload::write
+  opened : (code slot keyLength : ℕ) (key : List ℕ) → Returned  -- opening::open_slot, opening::open
+  filled : (code : ℕ) (buffer : List ℕ) → Returned  -- payload::read
+
+-- calls that are lent the image to change it, that open it, and that read it into a buffer
+pub data Kind : Type 0 where
+  changing opening reading : Kind
+
+abbrev pub kindOf : Call → Kind
+kindOf (add k key x) = changing
+kindOf (change k passphrase to x filler) = changing
+kindOf (revoke k filler) = changing
+kindOf (openSlot k passphrase) = opening
+kindOf (openAny passphrase) = opening
+kindOf (read key u n buffer) = reading
+kindOf (write key u n buffer) = changing
+
+-- the buffer that a read is lent
+abbrev pub bufferOf : Call → List ℕ
+bufferOf (add k key x) = []
+bufferOf (change k passphrase to x filler) = []
+bufferOf (revoke k filler) = []
+bufferOf (openSlot k passphrase) = []
+bufferOf (openAny passphrase) = []
+bufferOf (read key u n buffer) = buffer
+bufferOf (write key u n buffer) = []
+
+-- the `ensures` of the function of a call on an image
+abbrev pub Ensured : List ℕ → Call → Returned → Type 0
+Ensured image c (changed r after) = (kindOf c ≡ changing) × Does built image c r after
+Ensured image c (opened r slot keyLength key) = (kindOf c ≡ opening) × DoesOpen built image c r slot keyLength key
+Ensured image c (filled r after) = (kindOf c ≡ reading) × DoesRead built image c r (bufferOf c) after
+
+-- openings and reads are lent the image shared, and leave it
+abbrev pub imageLeft : List ℕ → Returned → List ℕ
+imageLeft image (changed r after) = after
+imageLeft image (opened r slot keyLength key) = image
+imageLeft image (filled r buffer) = image
+
+-- the answer (01, "The answer that demand 3 compares") in what was returned
+unfoldable pub answerIn : Returned → Answer
+answerIn (changed r after) = record { code = r; slot = 0; keyLength = 0; key = []; bytes = [] }
+answerIn (opened r slot keyLength key) = record { code = r; slot = slot; keyLength = keyLength; key = key; bytes = [] }
+answerIn (filled r buffer) = record { code = r; slot = 0; keyLength = 0; key = []; bytes = cond (eqb r 0) buffer [] }
+
+-- calls one after the other, each with what it returned
+abbrev pub Trace : List ℕ → List Call → List Returned → Type 0
+Trace image [] [] = Unit {0}
+Trace image [] (r ∷ rs) = ⊥
+Trace image (c ∷ cs) [] = ⊥
+Trace image (c ∷ cs) (r ∷ rs) = Ensured image c r × Trace (imageLeft image r) cs rs
+
+-- the image that the last of them left
+abbrev pub lastLeft : List ℕ → List Returned → List ℕ
+lastLeft image [] = image
+lastLeft image (r ∷ rs) = lastLeft (imageLeft image r) rs
+
+-- what the theorem says of them after an accepted format: image and answers are the ledger's
+pub record FollowsLedger (a : FormatInput) (image after : List ℕ) (cs : List Call) (rs : List Returned) : Type 0 where
+  pub image-is : lastLeft after rs ≡ ledgerImage built (lastLedger built a image cs)
+  pub answers-are : map answerIn rs ≡ ledgerAnswers built a image cs

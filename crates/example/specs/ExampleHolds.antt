@@ -1,0 +1,46 @@
+-- What holds of the example: computed by the checker, and said by demand 3.
+use mathlib.Core.Path.{_≡_}
+use mathlib.Core.List.{List}
+use Prim.Native.Nat.{ℕ}
+use lib.ListN.{length}
+use Rattle.rules.specs.Lawful.{LawfulTable}
+use Rattle.rules.specs.Calls.{openSlot, read}
+use Rattle.rules.specs.Step.{step}
+use Rattle.rules.specs.Format.{format}
+use Rattle.ledger.specs.Ledger.{ledgerImage}
+use Rattle.ledger.specs.Demand3.{FormatTyped, AllTyped, SomeLive, answersGiven, lastImage, ledgerAnswers, lastLedger}
+use Rattle.example.specs.Small.{smallTable}
+use Rattle.example.specs.Example.{bytes, theKey, two, eight, input, image, calls, expected, gaveKey, gaveTwin, said, endLedger, endBytes, otherImage, fewerCalls}
+
+-- computed, with no use of the theorem
+pub record Computed : Type 0 where
+  pub accepted : format smallTable input image .code ≡ 0
+  -- the calls on the image
+  pub answers-on-image : answersGiven smallTable input image calls ≡ expected
+  pub image-on-image : lastImage smallTable input image calls ≡ endBytes
+  -- the calls on the ledger
+  pub answers-on-ledger : ledgerAnswers smallTable input image calls ≡ expected
+  pub ledger-is : lastLedger smallTable input image calls ≡ endLedger
+  pub image-on-ledger : ledgerImage smallTable endLedger ≡ endBytes
+  -- the other calls, after a format of the other image
+  pub others-accepted : format smallTable input otherImage .code ≡ 0
+  pub others-end : lastLedger smallTable input otherImage fewerCalls ≡ endLedger
+
+-- the theorem's hypotheses are met, and what it says then
+pub record ExampleHolds : Type 0 where
+  pub lawful : LawfulTable smallTable
+  pub input-typed : FormatTyped input
+  pub calls-typed : AllTyped calls
+  pub accepted : format smallTable input image .code ≡ 0
+  -- the answers on the image are the expected ones, and the last image is the ledger's
+  pub answers-are : answersGiven smallTable input image calls ≡ expected
+  pub image-is : lastImage smallTable input image calls ≡ endBytes
+  -- slot 8 opens with the master key, slot 2 with the other key that has its checksum
+  pub opens-8 : step smallTable (lastImage smallTable input image calls) (openSlot 8 eight) .said ≡ gaveKey 8
+  pub opens-2 : step smallTable (lastImage smallTable input image calls) (openSlot 2 two) .said ≡ gaveTwin 2
+  -- the unit that was written reads back
+  pub reads-1 : (buffer : List ℕ) → length buffer ≡ 512
+      → step smallTable (lastImage smallTable input image calls) (read theKey 1 1 buffer) .said ≡ said 0 (bytes 512 0x2A)
+  pub some-live : SomeLive (lastLedger smallTable input image calls)
+  -- other calls on another image, with the same end
+  pub one-image : lastImage smallTable input image calls ≡ lastImage smallTable input otherImage fewerCalls

@@ -1,0 +1,4 @@
+pub mod Small
+pub mod Example
+pub mod ExampleHolds
+pub mod Real

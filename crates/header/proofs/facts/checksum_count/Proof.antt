@@ -1,0 +1,15 @@
+-- `header::facts::checksum_count` meets its contract.
+use borrow.Author.Needs.{needs}
+use Rattle.rules.specs.Facts.{factsOf}
+use Rattle.header.proofs.facts.checksum_count.Statement.{statement}
+use Rattle.header.proofs.facts.checksum_count.Tie as tie
+
+be32-at-requires : tie.Need-be32-at-requires
+be32-at-requires c κs = search needs
+
+returns : tie.Need-returns
+unfolding factsOf
+returns c = c .be32-at .ensures
+
+pub checksum-count-spec : {M : Type 1} → statement M
+checksum-count-spec = tie.close (tie.spec be32-at-requires returns)

@@ -1,0 +1,71 @@
+-- `profiles::is_known` meets its contract.
+use mathlib.Core.Path.{_≡_, refl}
+use Prim.Native.Nat.{_-_, _≤_}
+use native.Mathlib.Omega.{arith}
+use lib.ListN.{length, drop}
+use borrow.Author.Needs.{needs}
+use Rattle.octets.specs.Octets.{zeros}
+use Rattle.rules.specs.Profiles.{known}
+use Rattle.profiles.specs.Rows.{aesXtsRow, rows}
+use Rattle.profiles.proofs.RowLaws.{number-found, number-next, number-none}
+use Rattle.profiles.proofs.is_known.Statement.{statement}
+use Rattle.profiles.proofs.is_known.Tie as tie
+
+abbrev Inv-loop : tie.InvT-loop
+Inv-loop number i₀ i = (i ≤ length rows) × (known (drop i rows) number ≡ known rows number)
+
+abbrev μ-loop : tie.MeasureT-loop
+μ-loop number i₀ i = length rows - i
+
+loop-holds : tie.Need-loop-holds Inv-loop μ-loop
+unfolding rows
+loop-holds c = (omega arith, refl)
+
+mul-p : tie.Need-mul-p Inv-loop μ-loop
+mul-p c = search needs
+
+array-copy-out-p : tie.Need-array-copy-out-p Inv-loop μ-loop
+array-copy-out-p c = search needs
+
+returns : tie.Need-returns Inv-loop μ-loop
+unfolding zeros rows aesXtsRow
+returns c =
+    let l = c .before .before .before .before .loop in
+    let n = c .before .before .before .before .before .args .number in
+    number-found rows n (l .i) (known rows n) (omega arith) (c .if1 .taken) (l .inv .1)
+
+add-i : tie.Need-add-i Inv-loop μ-loop
+add-i c = search needs
+
+loop-less : tie.Need-loop-less Inv-loop μ-loop
+unfolding rows
+loop-less c = search needs
+
+loop-again : tie.Need-loop-again Inv-loop μ-loop
+unfolding zeros rows aesXtsRow
+loop-again c =
+    let l = c .before .before .before .before .loop in
+    let n = c .before .before .before .before .before .args .number in
+    (omega arith, number-next rows n (l .i) (known rows n) (omega arith) (c .if1 .left) (l .inv .1))
+
+returns-2 : tie.Need-returns-2 Inv-loop μ-loop
+unfolding rows
+returns-2 c =
+    let l = c .before .loop in
+    let n = c .before .before .args .number in
+    number-none rows n (l .i) (known rows n) (omega arith) (l .inv .1)
+
+pub is-known-spec : {M : Type 1} → statement M
+is-known-spec =
+    tie.close
+    (tie.spec
+    Inv-loop
+    μ-loop
+    loop-holds
+    mul-p
+    array-copy-out-p
+    returns
+    add-i
+    loop-less
+    loop-again
+    returns-2)

@@ -1,0 +1,81 @@
+-- `profiles::profile_at` meets its contract.
+use mathlib.Core.Path.{_≡_, refl}
+use mathlib.Core.Bool.{true}
+use Prim.Native.Nat.{_-_, _≤_}
+use native.Mathlib.Omega.{arith}
+use lib.ListN.{length, drop}
+use borrow.Author.Needs.{needs}
+use Rattle.octets.specs.Octets.{zeros}
+use Rattle.octets.proofs.BoolLaws.{no}
+use Rattle.rules.specs.Profiles.{profileAt, known}
+use Rattle.profiles.specs.Rows.{aesXtsRow, rows}
+use Rattle.profiles.proofs.RowLaws.{number-next, number-none, row-found, row-next}
+use Rattle.profiles.proofs.profile_at.Statement.{statement}
+use Rattle.profiles.proofs.profile_at.Tie as tie
+
+abbrev Inv-loop : tie.InvT-loop
+Inv-loop number i₀ i =
+    (i ≤ length rows) × (known (drop i rows) number ≡ true) × (profileAt (drop i rows) number ≡ profileAt rows number)
+
+abbrev μ-loop : tie.MeasureT-loop
+μ-loop number i₀ i = length rows - i
+
+loop-holds : tie.Need-loop-holds Inv-loop μ-loop
+unfolding rows
+loop-holds c = (omega arith, c .pre, refl)
+
+mul-p : tie.Need-mul-p Inv-loop μ-loop
+mul-p c = search needs
+
+array-copy-out-p : tie.Need-array-copy-out-p Inv-loop μ-loop
+array-copy-out-p c = search needs
+
+returns : tie.Need-returns Inv-loop μ-loop
+unfolding zeros rows aesXtsRow
+returns c =
+    let l = c .before .before .before .before .loop in
+    let n = c .before .before .before .before .before .args .number in
+    row-found rows n (l .i) (profileAt rows n) (omega arith) (c .if1 .taken) (l .inv .2)
+
+add-i : tie.Need-add-i Inv-loop μ-loop
+add-i c = search needs
+
+loop-less : tie.Need-loop-less Inv-loop μ-loop
+unfolding rows
+loop-less c = search needs
+
+loop-again : tie.Need-loop-again Inv-loop μ-loop
+unfolding zeros rows aesXtsRow
+loop-again c =
+    let l = c .before .before .before .before .loop in
+    let n = c .before .before .before .before .before .args .number in (
+      omega arith,
+      number-next rows n (l .i) true (omega arith) (c .if1 .left) (l .inv .1),
+      row-next rows n (l .i) (profileAt rows n) (omega arith) (c .if1 .left) (l .inv .2),
+    )
+
+array-copy-out-result : tie.Need-array-copy-out-result Inv-loop μ-loop
+array-copy-out-result c = search needs
+
+-- the loop does not end without a row
+returns-2 : tie.Need-returns-2 Inv-loop μ-loop
+unfolding rows
+returns-2 c =
+    let l = c .before .before .loop in
+    no (number-none rows (c .before .before .before .args .number) (l .i) true (omega arith) (l .inv .1))
+
+pub profile-at-spec : {M : Type 1} → statement M
+profile-at-spec =
+    tie.close
+    (tie.spec
+    Inv-loop
+    μ-loop
+    loop-holds
+    mul-p
+    array-copy-out-p
+    returns
+    add-i
+    loop-less
+    loop-again
+    array-copy-out-result
+    returns-2)

@@ -1,0 +1,72 @@
+-- `slots::key_matches` meets its contract.
+use mathlib.Core.Path.{_≡_}
+use native.Mathlib.Omega.{arith}
+use lib.ListN.{length}
+use borrow.Author.Needs.{needs}
+use Rattle.header.proofs.SoundLaws.{Sound, sound}
+use Rattle.slots.proofs.AreaLaws.{matches-is}
+use Rattle.slots.proofs.key_matches.Statement.{statement}
+use Rattle.slots.proofs.key_matches.Tie as tie
+
+good : (s : tie.Start) → Sound (s .args .image .now)
+good s = sound (s .args .image .now) (s .pre .0)
+
+-- where the salt has been read
+abbrev counted : tie.After-checksum-salt → tie.After-checksum-count
+counted c = c .before
+
+abbrev start : tie.After-checksum-salt → tie.Start
+start c = counted c .before .before .before
+
+checksum-count-requires : tie.Need-checksum-count-requires
+checksum-count-requires c κs = good (c .before .before) .size
+
+checksum-salt-requires : tie.Need-checksum-salt-requires
+checksum-salt-requires c κs = good (c .before .before .before) .size
+
+slice-aggregate-pbkdf2-sha1 : tie.Need-slice-aggregate-pbkdf2-sha1
+slice-aggregate-pbkdf2-sha1 c = search needs
+
+slice-aggregate-pbkdf2-sha1-2 : tie.Need-slice-aggregate-pbkdf2-sha1-2
+slice-aggregate-pbkdf2-sha1-2 c = search needs
+
+pbkdf2-sha1-requires : tie.Need-pbkdf2-sha1-requires
+pbkdf2-sha1-requires c κs =
+    let p = c .before .before in
+    let l : length (p .checksum-salt .result) ≡ 32 = search needs in
+    (omega (arith, start p .pre .1), omega (arith, l), omega (arith, good (start p) .checksum-least, counted p .checksum-count .ensures), omega arith)
+
+checksum-requires : tie.Need-checksum-requires
+checksum-requires c κs = good (start (c .before .before .before .before)) .size
+
+slice-aggregate-equal : tie.Need-slice-aggregate-equal
+slice-aggregate-equal c = search needs
+
+slice-aggregate-equal-2 : tie.Need-slice-aggregate-equal-2
+slice-aggregate-equal-2 c = search needs
+
+equal-requires : tie.Need-equal-requires
+equal-requires c κs = search needs
+
+returns : tie.Need-returns
+returns c =
+    let d = c .before .before .before .before .before in
+    let p = d .before .before .before in
+    let a = start p .args in
+    matches-is (a .image .now) (a .key .now) (p .checksum-salt .result) _ _ (counted p .checksum-count .result) _ (counted p .checksum-count .ensures)
+    (p .checksum-salt .ensures) (c .before .before .before .checksum .ensures) (d .pbkdf2-sha1 .ensures) (c .equal .ensures)
+
+pub key-matches-spec : {M : Type 1} → statement M
+key-matches-spec =
+    tie.close
+    (tie.spec
+    checksum-count-requires
+    checksum-salt-requires
+    slice-aggregate-pbkdf2-sha1
+    slice-aggregate-pbkdf2-sha1-2
+    pbkdf2-sha1-requires
+    checksum-requires
+    slice-aggregate-equal
+    slice-aggregate-equal-2
+    equal-requires
+    returns)

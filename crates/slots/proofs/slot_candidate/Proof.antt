@@ -1,0 +1,118 @@
+-- `slots::slot_candidate` meets its contract.
+use mathlib.Core.Path.{_≡_}
+use Prim.Native.Nat.{_+_, _-_, _*_, _≤_}
+use native.Mathlib.Omega.{arith}
+use lib.ListN.{length, take, drop, length-drop}
+use lib.Seq.{length-take-le}
+use borrow.Author.Needs.{needs}
+use Rattle.rules.proofs.ArgumentLaws.{passphrase-in}
+use Rattle.header.proofs.SoundLaws.{Sound, SlotSound, sound}
+use Rattle.rules.specs.Facts.{candidate}
+use Rattle.header.specs.Records.{factsIn}
+use Rattle.slots.proofs.AreaLaws.{area-small, area-fits, some-stripes, area-is, candidate-is}
+use Rattle.slots.proofs.slot_candidate.Statement.{statement}
+use Rattle.slots.proofs.slot_candidate.Tie as tie
+
+-- where the slot's record has been read: the call, what its header assures, and the area's room
+abbrev start : tie.After-slot-of → tie.Start
+start c = c .before .before .before .before
+
+good : (s : tie.Start) → Sound (s .args .image .now)
+good s = sound (s .args .image .now) (s .pre .0)
+
+own : (c : tie.After-slot-of) → SlotSound (factsIn (start c .args .image .now)) (start c .args .slot)
+own c = good (start c) .slot (start c .args .slot) (start c .pre .1)
+
+small : (c : tie.After-slot-of) → c .slot-of .result .stripes * length (start c .args .d .now) ≤ 4000 * 64
+small c =
+    let s = start c in
+    area-small (s .args .image .now) (s .pre .0) (s .args .slot) (s .pre .1) (c .slot-of .result) (c .slot-of .ensures) (length (s .args .d .now)) (s .pre .3)
+
+room : (c : tie.After-slot-of) → c .slot-of .result .start .0 * 512 + c .slot-of .result .stripes * length (start c .args .d .now) ≤ length (start c .args .image .now)
+room c =
+    let s = start c in
+    area-fits (s .args .image .now) (s .pre .0) (s .args .slot) (s .pre .1) (c .slot-of .result) (c .slot-of .ensures) (length (s .args .d .now)) (s .pre .3)
+
+slot-of-requires : tie.Need-slot-of-requires
+slot-of-requires c κs = let s = c .before .before .before in (good s .size, s .pre .1)
+
+cast-n : tie.Need-cast-n
+cast-n c = search needs
+
+cast-at : tie.Need-cast-at
+cast-at c = search needs
+
+mul-at : tie.Need-mul-at
+mul-at c = search needs
+
+mul-end : tie.Need-mul-end
+mul-end c = omega (arith, small (c .before .before))
+
+add-end : tie.Need-add-end
+add-end c = omega (arith, small (c .before .before))
+
+sub-candidate : tie.Need-sub-candidate
+sub-candidate c = search needs
+
+part-candidate-start : tie.Need-part-candidate-start
+part-candidate-start c = search needs
+
+part-candidate-end : tie.Need-part-candidate-end
+part-candidate-end c = omega (arith, room (c .before .before .before .before))
+
+slice-aggregate-candidate : tie.Need-slice-aggregate-candidate
+slice-aggregate-candidate c = search needs
+
+candidate-requires : tie.Need-candidate-requires
+candidate-requires c κs =
+    let p = c .before .before .before .before .before .before in
+    let s = start p in
+    let g = good s in
+    let r = p .slot-of in
+    let m = s .args .image .now in
+    let at = r .result .start .0 * 512 in
+    let n = r .result .stripes * length (s .args .d .now) in
+    let l : length (take (at + n - at) (drop at m)) ≡ at + n - at = length-take-le (at + n - at) (drop at m) (omega (arith, length-drop at m, room p)) in
+    let z : length (r .result .salt) ≡ 32 = search needs in
+    let e = s .pre .3 in (
+      some-stripes m (s .pre .0) (s .args .slot) (s .pre .1) (r .result) (r .ensures) (length (s .args .d .now)) e,
+      omega (arith, l),
+      omega (arith, e, g .key-least),
+      omega (arith, e, g .key-most),
+      omega (arith, e, g .key-whole),
+      omega (arith, r .ensures .count-is, own p .count-least (s .pre .2)),
+      omega (arith, passphrase-in (s .args .passphrase .now) (s .pre .4) .1),
+      omega (arith, z),
+    )
+
+same-length : tie.Need-same-length
+same-length c = search needs
+
+returns : tie.Need-returns
+returns c =
+    let d = c .before .before in
+    let p = d .before .before .before .before .before .before .before in
+    let s = start p in
+    let m = s .args .image .now in
+    let r = p .slot-of in
+    let L = length (s .args .d .now) in
+    candidate-is m (s .pre .0) (s .args .slot) (s .pre .1) (r .result) (r .ensures) L (s .pre .3) (s .args .passphrase .now) _ _
+    (area-is m (s .pre .0) (s .args .slot) (s .pre .1) (r .result) (r .ensures) L (s .pre .3)) (d .candidate .ensures)
+
+pub slot-candidate-spec : {M : Type 1} → statement M
+slot-candidate-spec =
+    tie.close
+    (tie.spec
+    slot-of-requires
+    cast-n
+    cast-at
+    mul-at
+    mul-end
+    add-end
+    sub-candidate
+    part-candidate-start
+    part-candidate-end
+    slice-aggregate-candidate
+    candidate-requires
+    same-length
+    returns)

@@ -1,0 +1,114 @@
+// The slots' work below the calls: a key's checksum tested, a slot tried with a passphrase, a slot enabled and disabled.
+ghost use mathlib.Core.Path.{_≡_};
+ghost use mathlib.Core.Bool.{true};
+ghost use Prim.Native.Nat.{_+_, _*_, _≤_};
+ghost use lib.ListN.{length};
+ghost use Rattle.rules.specs.Facts.{slotOf, isEnabled, matches, candidate, slotInput};
+ghost use Rattle.rules.specs.Calls.{slotNumberOk, passphraseOk, keyOk, countOk, randomOk};
+ghost use Rattle.rules.specs.Step.{written, recordHead, enableWrites, disableWrites};
+ghost use Rattle.header.specs.Records.{factsIn, HeaderOk};
+ghost use Rattle.slots.specs.Trials.{IsTrial};
+
+// Whether a slot opens, and then its key, followed by zeros.
+pub struct Trial {
+    pub opens: bool,
+    pub key: [u8; 64],
+}
+
+// Has the key the header's checksum? One derivation of 20 bytes.
+pub fn key_matches(image: &[u8], key: &[u8]) -> bool
+    requires { ⌜ HeaderOk (now image) × (length (now key) ≤ 64) ⌝ }
+    ensures { λ r. ⌜ r ≡ matches (factsIn (now (image .entry))) (now (key .entry)) ⌝ }
+{
+    let count = header::facts::checksum_count(image);
+    let salt = header::facts::checksum_salt(image);
+    let mut sum = [0u8; 20];
+    pbkdf2::pbkdf2_sha1(&mut sum, key, &salt, count);
+    let expected = header::facts::checksum(image);
+    octets::equal(&sum, &expected)
+}
+
+// The candidate of an enabled slot, in d.
+fn slot_candidate(d: &mut [u8], image: &[u8], slot: u8, passphrase: &[u8])
+    requires { ⌜ HeaderOk (now image) × (slotNumberOk slot ≡ true) × (isEnabled (slotOf (factsIn (now image)) slot) ≡ true)
+        × (length (now d) ≡ factsIn (now image) .profile .keyBytes) × (passphraseOk (now passphrase) ≡ true) ⌝ }
+    ensures { λ _. ⌜ now (d .exit) ≡ candidate (factsIn (now (image .entry))) slot (now (passphrase .entry)) ⌝ }
+{
+    let s = header::facts::slot_of(image, slot);
+    let n = s.stripes as usize;
+    let at = s.start.0 as usize * 512;
+    let end = at + n * d.len();
+    let salt = s.salt;
+    keyslot::candidate(d, &image[at..end], n, passphrase, &salt, s.count);
+}
+
+// Tries a slot, counted from 1: a disabled one costs nothing, an enabled one its derivation and one checksum.
+pub fn try_slot(image: &[u8], slot: u8, passphrase: &[u8]) -> Trial
+    requires { ⌜ HeaderOk (now image) × (slotNumberOk slot ≡ true) × (passphraseOk (now passphrase) ≡ true) ⌝ }
+    ensures { λ r. ⌜ IsTrial r (factsIn (now (image .entry))) slot (now (passphrase .entry)) ⌝ }
+{
+    if !header::arguments::slot_enabled(image, slot) {
+        return Trial {
+            opens: false,
+            key: [0u8; 64],
+        };
+    }
+    let l = header::facts::key_bytes(image) as usize;
+    let mut key = [0u8; 64];
+    slot_candidate(&mut key[..l], image, slot, passphrase);
+    let opens = key_matches(image, &key[..l]);
+    Trial { opens, key }
+}
+
+// The first 40 bytes of a slot's record; its start and stripes stay.
+fn record_head(state: u32, count: u32, salt: &[u8; 32]) -> [u8; 40]
+    ensures { λ r. ⌜ r ≡ recordHead state count (now (salt .entry)) ⌝ }
+{
+    let mut head = [0u8; 40];
+    let state_bytes = octets::be32(state);
+    let count_bytes = octets::be32(count);
+    octets::copy_into(&mut head, 0, &state_bytes);
+    octets::copy_into(&mut head, header::offsets::COUNT, &count_bytes);
+    octets::copy_into(&mut head, header::offsets::SALT, salt);
+    head
+}
+
+// Fills the slot's area with the split and enciphered key, and enables its record.
+// The salt's length stands in the contract for a caller that only passes the salt on.
+pub fn enable_slot(
+    image: &mut [u8],
+    slot: u8,
+    key: &[u8],
+    passphrase: &[u8],
+    salt: &[u8; 32],
+    count: u32,
+    random: &[u8],
+)
+    requires { ⌜ HeaderOk (now image) × (slotNumberOk slot ≡ true) × (keyOk (factsIn (now image)) (now key) ≡ true) × (passphraseOk (now passphrase) ≡ true)
+        × (countOk (factsIn (now image)) count ≡ true) × (randomOk (factsIn (now image)) slot (now random) ≡ true) ⌝ }
+    ensures { λ _. ⌜ (now (image .exit) ≡ written (enableWrites (factsIn (now (image .entry))) slot (now (key .entry))
+        (slotInput (now (passphrase .entry)) (now (salt .entry)) count (now (random .entry)))) (now (image .entry))) × (length (now (salt .entry)) ≡ 32) ⌝ }
+{
+    let s = header::facts::slot_of(image, slot);
+    let at = s.start.0 as usize * 512;
+    let n = s.stripes as usize;
+    let end = at + n * key.len();
+    keyslot::fill(&mut image[at..end], key, passphrase, salt, count, random, n);
+    let head = record_head(header::ENABLED, count, salt);
+    let place = header::facts::record_at((slot - 1) as usize);
+    octets::copy_into(image, place, &head);
+}
+
+// Fills the slot's area, as far as the filler goes, and disables its record.
+pub fn disable_slot(image: &mut [u8], slot: u8, filler: &[u8])
+    requires { ⌜ (1024 ≤ length (now image)) × (slotNumberOk slot ≡ true)
+        × (slotOf (factsIn (now image)) slot .start * 512 + length (now filler) ≤ length (now image)) ⌝ }
+    ensures { λ _. ⌜ now (image .exit) ≡ written (disableWrites (factsIn (now (image .entry))) slot (now (filler .entry))) (now (image .entry)) ⌝ }
+{
+    let s = header::facts::slot_of(image, slot);
+    let area = s.start.0 as usize * 512;
+    octets::copy_into(image, area, filler);
+    let head = record_head(header::DISABLED, 0, &[0u8; 32]);
+    let place = header::facts::record_at((slot - 1) as usize);
+    octets::copy_into(image, place, &head);
+}

@@ -1,4 +1,0 @@
-pub mod Small
-pub mod Worked
-pub mod WorkedOut
-pub mod Real

@@ -19,18 +19,22 @@ at4 k (suc i) = k + 4 * suc i
 
 -- ---- a column by its rows
 
+-- row 0: its word in each of the eight planes
 abbrev pub row0 : List ℕ → List ℕ
 row0 x =
     getD x 0 0 ∷ getD x 4 0 ∷ getD x 8 0 ∷ getD x 12 0 ∷ getD x 16 0 ∷ getD x 20 0 ∷ getD x 24 0 ∷ getD x 28 0 ∷ []
 
+-- row 1: its word in each of the eight planes
 abbrev pub row1 : List ℕ → List ℕ
 row1 x =
     getD x 1 0 ∷ getD x 5 0 ∷ getD x 9 0 ∷ getD x 13 0 ∷ getD x 17 0 ∷ getD x 21 0 ∷ getD x 25 0 ∷ getD x 29 0 ∷ []
 
+-- row 2: its word in each of the eight planes
 abbrev pub row2 : List ℕ → List ℕ
 row2 x =
     getD x 2 0 ∷ getD x 6 0 ∷ getD x 10 0 ∷ getD x 14 0 ∷ getD x 18 0 ∷ getD x 22 0 ∷ getD x 26 0 ∷ getD x 30 0 ∷ []
 
+-- row 3: its word in each of the eight planes
 abbrev pub row3 : List ℕ → List ℕ
 row3 x =
     getD x 3 0 ∷ getD x 7 0 ∷ getD x 11 0 ∷ getD x 15 0 ∷ getD x 19 0 ∷ getD x 23 0 ∷ getD x 27 0 ∷ getD x 31 0 ∷ []

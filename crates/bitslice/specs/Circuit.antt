@@ -51,6 +51,7 @@ firstInputs = record {
   places = 10 ∷ 17 ∷ 18 ∷ 14 ∷ 16 ∷ 13 ∷ 12 ∷ 15 ∷ 11 ∷ 8 ∷ [];
 }
 
+-- these ten, of the eight words of bytes q
 unfoldable pub firstInputsOf : List ℕ → List ℕ
 firstInputsOf q = through firstInputs (reads 0 8 q)
 
@@ -63,6 +64,7 @@ secondInputs = record {
   places = 0 ∷ 24 ∷ 23 ∷ 26 ∷ 21 ∷ 20 ∷ 25 ∷ 29 ∷ 30 ∷ 27 ∷ 19 ∷ 28 ∷ [];
 }
 
+-- these twelve
 unfoldable pub secondInputsOf : List ℕ → List ℕ → List ℕ
 secondInputsOf q a = through secondInputs (reads 0 8 q ++ reads 0 10 a)
 
@@ -76,6 +78,7 @@ norm = record {
   places = 44 ∷ 38 ∷ 40 ∷ 43 ∷ [];
 }
 
+-- that element
 unfoldable pub normOf : List ℕ → List ℕ → List ℕ
 normOf a b = through norm (reads 0 10 a ++ reads 0 12 b)
 
@@ -88,6 +91,7 @@ inversion = record {
   places = 13 ∷ 11 ∷ 17 ∷ 19 ∷ [];
 }
 
+-- its inverse
 unfoldable pub inversionOf : List ℕ → List ℕ
 inversionOf t = through inversion (reads 0 4 t)
 
@@ -101,6 +105,7 @@ products = record {
   places = 31 ∷ 32 ∷ 33 ∷ 34 ∷ 35 ∷ 36 ∷ 37 ∷ 38 ∷ 39 ∷ 40 ∷ 41 ∷ 42 ∷ 43 ∷ 44 ∷ 45 ∷ 46 ∷ 47 ∷ 48 ∷ [];
 }
 
+-- these products
 unfoldable pub productsOf : List ℕ → List ℕ → List ℕ → List ℕ
 productsOf a b u = through products (reads 0 10 a ++ reads 0 12 b ++ reads 0 4 u)
 
@@ -115,6 +120,7 @@ outputs = record {
   places = 34 ∷ 44 ∷ 47 ∷ 46 ∷ 42 ∷ 45 ∷ 43 ∷ 37 ∷ [];
 }
 
+-- these sums
 unfoldable pub outputsOf : List ℕ → List ℕ
 outputsOf z = through outputs (reads 0 18 z)
 
@@ -126,6 +132,7 @@ invFirstInputs = record {
   places = 10 ∷ 17 ∷ 11 ∷ 16 ∷ 9 ∷ 13 ∷ 8 ∷ 15 ∷ 12 ∷ 14 ∷ [];
 }
 
+-- these ten, of the eight words of bytes q
 unfoldable pub invFirstInputsOf : List ℕ → List ℕ
 invFirstInputsOf q = through invFirstInputs (reads 0 8 q)
 
@@ -138,6 +145,7 @@ invSecondInputs = record {
   places = 22 ∷ 19 ∷ 24 ∷ 28 ∷ 27 ∷ 25 ∷ 26 ∷ 30 ∷ 21 ∷ 20 ∷ 23 ∷ 29 ∷ [];
 }
 
+-- these twelve
 unfoldable pub invSecondInputsOf : List ℕ → List ℕ → List ℕ
 invSecondInputsOf q a = through invSecondInputs (reads 0 8 q ++ reads 0 10 a)
 
@@ -151,6 +159,7 @@ invOutputs = record {
   places = 41 ∷ 35 ∷ 40 ∷ 45 ∷ 39 ∷ 43 ∷ 46 ∷ 31 ∷ [];
 }
 
+-- these sums
 unfoldable pub invOutputsOf : List ℕ → List ℕ
 invOutputsOf z = through invOutputs (reads 0 18 z)
 

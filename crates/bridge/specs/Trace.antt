@@ -21,6 +21,7 @@ pub data Returned : Type 0 where
 pub data Kind : Type 0 where
   changing opening reading : Kind
 
+-- the kind of a call
 abbrev pub kindOf : Call → Kind
 kindOf (add k key x) = changing
 kindOf (change k passphrase to x filler) = changing

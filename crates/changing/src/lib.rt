@@ -74,10 +74,12 @@ fn change_check(
     if !numbers_ok(from, to) {
         return Refusal::BadSlot;
     }
-    if !states_ok(image, from, to) {
+    let states = states_ok(image, from, to);
+    let passphrases = passphrases_ok(old, new);
+    if !states {
         return Refusal::WrongState;
     }
-    if !passphrases_ok(old, new) {
+    if !passphrases {
         return Refusal::BadPassphrase;
     }
     if !header::arguments::count_ok(image, count) {

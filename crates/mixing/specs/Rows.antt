@@ -9,6 +9,7 @@ use Rattle.aes.specs.Columns.{elems, at4}
 
 -- ---- the rows of a plane in a column, the first of which is word k
 
+-- these four words of q
 abbrev pub rowsAt : ℕ → List ℕ → List ℕ
 rowsAt k q = getD q k 0 ∷ getD q (k + 4) 0 ∷ getD q (k + 8) 0 ∷ getD q (k + 12) 0 ∷ []
 
@@ -24,6 +25,7 @@ pub record ReadPut (i k : ℕ) (f : List ℕ → List ℕ) (q b r : List ℕ) : 
 
 -- ---- sums of rows
 
+-- the exclusive or of two, row by row
 abbrev pub sumOf : List ℕ → List ℕ → List ℕ
 sumOf x y = bitXor (getD x 0 0) (getD y 0 0) ∷ bitXor (getD x 1 0) (getD y 1 0) ∷ bitXor (getD x 2 0) (getD y 2 0) ∷ bitXor (getD x 3 0) (getD y 3 0) ∷ []
 

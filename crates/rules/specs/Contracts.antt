@@ -35,6 +35,7 @@ pub record DoesFormat (table : Table) (a : FormatInput) (image : List ℕ) (code
 unfoldable pub openedBytes : Answer → List ℕ
 openedBytes a = a .slot ∷ a .keyLength ∷ a .key
 
+-- the two openings for C: the number is the step's, and the buffer has its answer
 pub record FillsOpened (table : Table) (image : List ℕ) (c : Call) (code : ℕ) (after : List ℕ) : Type 0 where
   pub code-is : code ≡ step table image c .said .code
   pub bytes-are : after ≡ openedBytes (step table image c .said)

@@ -26,11 +26,11 @@ checks s salt =
 abbrev start₁ : tie.After-numbers-ok → tie.Start
 start₁ c = c .before .before .before .before .before .before
 
-abbrev start₂ : tie.After-states-ok → tie.Start
-start₂ c = start₁ (c .before .before)
+abbrev start₂ : tie.After-passphrases-ok → tie.Start
+start₂ c = start₁ (c .before .before .before)
 
-abbrev start₃ : tie.After-passphrases-ok → tie.Start
-start₃ c = start₂ (c .before .before)
+abbrev start₃ : tie.Else2 → tie.Start
+start₃ c = start₂ (c .before)
 
 abbrev start₄ : tie.After-count-ok → tie.Start
 start₄ c = start₃ (c .before .before)
@@ -49,15 +49,15 @@ numbers c = let a = start₁ (c .before) .args in and-split (slotNumberOk (a .fr
 passed₂ : (c : tie.Else2) (salt : List ℕ) → Pass (take 2 (checks (start₂ (c .before)) salt))
 unfolding earlyChecks
 passed₂ c salt =
-    let t = c .before .states-ok in
-    let p = passed₁ (c .before .before) salt in
+    let t = c .before .before .states-ok in
+    let p = passed₁ (c .before .before .before) salt in
     (p .0, (sym (t .ensures) ∙ not-false (t .result) (c .if2 .left), tt))
 
 passed₃ : (c : tie.Else3) (salt : List ℕ) → Pass (take 3 (checks (start₃ (c .before)) salt))
 unfolding earlyChecks
 passed₃ c salt =
-    let t = c .before .passphrases-ok in
-    let p = passed₂ (c .before .before) salt in
+    let t = c .before .before .passphrases-ok in
+    let p = passed₂ (c .before) salt in
     (p .0, (p .1 .0, (sym (t .ensures) ∙ not-false (t .result) (c .if3 .left), tt)))
 
 passed₄ : (c : tie.Else4) (salt : List ℕ) → Pass (take 4 (checks (start₄ (c .before)) salt))
@@ -88,20 +88,20 @@ returns c salt =
 states-ok-requires : tie.Need-states-ok-requires
 states-ok-requires c κs = let n = numbers c in (start₁ (c .before) .pre, n .0, n .1)
 
+passphrases-ok-requires : tie.Need-passphrases-ok-requires
+passphrases-ok-requires c κs = search needs
+
 returns-2 : tie.Need-returns-2
 unfolding earlyChecks
 returns-2 c salt =
-    let t = c .before .states-ok in
-    refused-by (checks (start₂ (c .before)) salt) 1 (passed₁ (c .before .before) salt) (sym (t .ensures) ∙ not-true (t .result) (c .if2 .taken))
-
-passphrases-ok-requires : tie.Need-passphrases-ok-requires
-passphrases-ok-requires c κs = search needs
+    let t = c .before .before .states-ok in
+    refused-by (checks (start₂ (c .before)) salt) 1 (passed₁ (c .before .before .before) salt) (sym (t .ensures) ∙ not-true (t .result) (c .if2 .taken))
 
 returns-3 : tie.Need-returns-3
 unfolding earlyChecks
 returns-3 c salt =
-    let t = c .before .passphrases-ok in
-    refused-by (checks (start₃ (c .before)) salt) 2 (passed₂ (c .before .before) salt) (sym (t .ensures) ∙ not-true (t .result) (c .if3 .taken))
+    let t = c .before .before .passphrases-ok in
+    refused-by (checks (start₃ (c .before)) salt) 2 (passed₂ (c .before) salt) (sym (t .ensures) ∙ not-true (t .result) (c .if3 .taken))
 
 count-ok-requires : tie.Need-count-ok-requires
 count-ok-requires c κs = search needs
@@ -114,9 +114,9 @@ returns-4 c salt =
 
 lengths-ok-requires : tie.Need-lengths-ok-requires
 lengths-ok-requires c κs =
-    let s = c .before .before .before .before in
-    let n = numbers (s .before .before) in
-    (start₂ (s .before) .pre, n .0, n .1)
+    let both = c .before .before .before .before in
+    let n = numbers (both .before .before) in
+    (start₂ both .pre, n .0, n .1)
 
 returns-5 : tie.Need-returns-5
 unfolding earlyChecks
@@ -134,8 +134,8 @@ change-check-spec =
     numbers-ok-requires
     returns
     states-ok-requires
-    returns-2
     passphrases-ok-requires
+    returns-2
     returns-3
     count-ok-requires
     returns-4

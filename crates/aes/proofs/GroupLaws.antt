@@ -14,11 +14,11 @@ use Rattle.aes.proofs.ListLaws.{eights}
 
 module _ (a : ℕ → ℕ → ℕ) where
   -- q with words of group k replaced, from the one at i
-  abbrev pub puts : ℕ → ℕ → List ℕ → List ℕ → List ℕ
+  abbrev puts : ℕ → ℕ → List ℕ → List ℕ → List ℕ
   puts k i [] q = q
   puts k i (r ∷ rs) q = puts k (suc i) rs (set q (a k i) r)
 
-  pub length-puts : (k i : ℕ) (rs q : List ℕ) → length (puts k i rs q) ≡ length q
+  length-puts : (k i : ℕ) (rs q : List ℕ) → length (puts k i rs q) ≡ length q
   length-puts k i [] q = refl
   length-puts k i (r ∷ rs) q = length-puts k (suc i) rs (set q (a k i) r) ∙ length-set q (a k i) r
 

@@ -140,6 +140,20 @@ sums-mix (a ∷ b ∷ c ∷ []) h = refl
 sums-mix (a ∷ b ∷ c ∷ d ∷ s) (ha, (hb, (hc, (hd, h)))) =
     ap₂ _∷_ (sum-0 a b c d ha hb) (ap₂ _∷_ (sum-1 a b c d hb hc) (ap₂ _∷_ (sum-2 a b c d hc hd) (ap₂ _∷_ (sum-3 a b c d hd ha) (sums-mix s h))))
 
+-- a lane's byte of a row is that of the row's cell
+module _ (q : List ℕ) (j k : ℕ) where
+  pub byte-row0 : laneByte j (row0 (elems at4 k 0 32 q)) ≡ laneByte j (cell k q)
+  byte-row0 = ap (laneByte j) (sym (cell-row0 k q))
+
+  pub byte-row1 : laneByte j (row1 (elems at4 k 0 32 q)) ≡ laneByte j (cell (k + 4) q)
+  byte-row1 = ap (laneByte j) (sym (cell-row1 k q))
+
+  pub byte-row2 : laneByte j (row2 (elems at4 k 0 32 q)) ≡ laneByte j (cell (k + 8) q)
+  byte-row2 = ap (laneByte j) (sym (cell-row2 k q))
+
+  pub byte-row3 : laneByte j (row3 (elems at4 k 0 32 q)) ≡ laneByte j (cell (k + 12) q)
+  byte-row3 = ap (laneByte j) (sym (cell-row3 k q))
+
 module _ (q r : List ℕ) (e : (k : ℕ) → k < 4 → elems at4 k 0 32 r ≡ mixOf (elems at4 k 0 32 q)) (j : ℕ) where
   f : ℕ → ℕ
   f p = laneByte j (cell p q)
@@ -149,29 +163,17 @@ module _ (q r : List ℕ) (e : (k : ℕ) → k < 4 → elems at4 k 0 32 r ≡ mi
   mixed = of-rows (λ p. laneByte j (cell p r) ≡ rowSum (f p) (f ((p + 4) % 16)) (f ((p + 8) % 16)) (f ((p + 12) % 16)))
       (λ k h. ap (laneByte j) (cell-row0 k r ∙ ap row0 (e k h))
       ∙ mix-byte j (row0 (elems at4 k 0 32 q)) (row1 (elems at4 k 0 32 q)) (row2 (elems at4 k 0 32 q)) (row3 (elems at4 k 0 32 q)) refl refl refl refl
-      ∙ four-rows k (k + 4) (k + 8) (k + 12) k ((k + 4) % 16) ((k + 8) % 16) ((k + 12) % 16) (r0 k) (r1 k) (r2 k) (r3 k) refl (omega arith) (omega arith) (omega arith))
+      ∙ four-rows k (k + 4) (k + 8) (k + 12) k ((k + 4) % 16) ((k + 8) % 16) ((k + 12) % 16) (byte-row0 q j k) (byte-row1 q j k) (byte-row2 q j k) (byte-row3 q j k) refl (omega arith) (omega arith) (omega arith))
       (λ k h. ap (laneByte j) (cell-row1 k r ∙ ap row1 (e k h))
       ∙ mix-byte j (row1 (elems at4 k 0 32 q)) (row2 (elems at4 k 0 32 q)) (row3 (elems at4 k 0 32 q)) (row0 (elems at4 k 0 32 q)) refl refl refl refl
-      ∙ four-rows (k + 4) (k + 8) (k + 12) k (k + 4) ((k + 4 + 4) % 16) ((k + 4 + 8) % 16) ((k + 4 + 12) % 16) (r1 k) (r2 k) (r3 k) (r0 k) refl (omega arith) (omega arith) (omega arith))
+      ∙ four-rows (k + 4) (k + 8) (k + 12) k (k + 4) ((k + 4 + 4) % 16) ((k + 4 + 8) % 16) ((k + 4 + 12) % 16) (byte-row1 q j k) (byte-row2 q j k) (byte-row3 q j k) (byte-row0 q j k) refl (omega arith) (omega arith) (omega arith))
       (λ k h. ap (laneByte j) (cell-row2 k r ∙ ap row2 (e k h))
       ∙ mix-byte j (row2 (elems at4 k 0 32 q)) (row3 (elems at4 k 0 32 q)) (row0 (elems at4 k 0 32 q)) (row1 (elems at4 k 0 32 q)) refl refl refl refl
-      ∙ four-rows (k + 8) (k + 12) k (k + 4) (k + 8) ((k + 8 + 4) % 16) ((k + 8 + 8) % 16) ((k + 8 + 12) % 16) (r2 k) (r3 k) (r0 k) (r1 k) refl (omega arith) (omega arith) (omega arith))
+      ∙ four-rows (k + 8) (k + 12) k (k + 4) (k + 8) ((k + 8 + 4) % 16) ((k + 8 + 8) % 16) ((k + 8 + 12) % 16) (byte-row2 q j k) (byte-row3 q j k) (byte-row0 q j k) (byte-row1 q j k) refl (omega arith) (omega arith) (omega arith))
       (λ k h. ap (laneByte j) (cell-row3 k r ∙ ap row3 (e k h))
       ∙ mix-byte j (row3 (elems at4 k 0 32 q)) (row0 (elems at4 k 0 32 q)) (row1 (elems at4 k 0 32 q)) (row2 (elems at4 k 0 32 q)) refl refl refl refl
-      ∙ four-rows (k + 12) k (k + 4) (k + 8) (k + 12) ((k + 12 + 4) % 16) ((k + 12 + 8) % 16) ((k + 12 + 12) % 16) (r3 k) (r0 k) (r1 k) (r2 k) refl (omega arith) (omega arith) (omega arith))
+      ∙ four-rows (k + 12) k (k + 4) (k + 8) (k + 12) ((k + 12 + 4) % 16) ((k + 12 + 8) % 16) ((k + 12 + 12) % 16) (byte-row3 q j k) (byte-row0 q j k) (byte-row1 q j k) (byte-row2 q j k) refl (omega arith) (omega arith) (omega arith))
     where
-      r0 : (k : ℕ) → laneByte j (row0 (elems at4 k 0 32 q)) ≡ f k
-      r0 k = ap (laneByte j) (sym (cell-row0 k q))
-
-      r1 : (k : ℕ) → laneByte j (row1 (elems at4 k 0 32 q)) ≡ f (k + 4)
-      r1 k = ap (laneByte j) (sym (cell-row1 k q))
-
-      r2 : (k : ℕ) → laneByte j (row2 (elems at4 k 0 32 q)) ≡ f (k + 8)
-      r2 k = ap (laneByte j) (sym (cell-row2 k q))
-
-      r3 : (k : ℕ) → laneByte j (row3 (elems at4 k 0 32 q)) ≡ f (k + 12)
-      r3 k = ap (laneByte j) (sym (cell-row3 k q))
-
       four-rows : {w x y z : ℕ} (a b c d a′ b′ c′ d′ : ℕ) → w ≡ f a → x ≡ f b → y ≡ f c → z ≡ f d → a ≡ a′ → b ≡ b′ → c ≡ c′ → d ≡ d′
           → rowSum w x y z ≡ rowSum (f a′) (f b′) (f c′) (f d′)
       four-rows a b c d a′ b′ c′ d′ ew ex ey ez ea eb ec ed =

@@ -6,7 +6,7 @@ use native.Mathlib.Omega.{arith}
 use lib.Bits.{bitXor}
 use lib.ListN.{length}
 use Rattle.octets.specs.Octets.{Bytes, _⊕_}
-use Rattle.octets.proofs.XorLaws.{⊕-assoc, ⊕-left, ⊕-comm, ⊕-self, zero-⊕, ⊕-byte}
+use Rattle.octets.proofs.XorLaws.{⊕-assoc, ⊕-left, ⊕-comm, ⊕-byte}
 use Rattle.gf256.specs.Field.{xtime}
 use Rattle.gf256.proofs.FieldLaws.{xtime-byte, xtime-⊕, mul-1, mul-2, mul-3, mul-9, mul-11, mul-13, mul-14}
 use Rattle.bitslice.specs.Words.{laneByte, xorWords, doubledWords}
@@ -15,7 +15,8 @@ use Rattle.aes.specs.Aes.{dot, mixWords, mixColumns, invMixColumns}
 use Rattle.aes.specs.Planes.{cell, state, Each, premix}
 use Rattle.aes.specs.Columns.{elems, at4}
 use Rattle.aes.specs.Columns.{row0, row1, row2, row3, premixRow, premixOf}
-use Rattle.aes.proofs.PlaneLaws.{length-words, cell-row0, cell-row1, cell-row2, cell-row3, of-rows, same-places, bytes-state}
+use Rattle.aes.proofs.MixLaws.{⊕-cancel}
+use Rattle.aes.proofs.PlaneLaws.{length-words, cell-row0, cell-row1, cell-row2, cell-row3, byte-row0, byte-row1, byte-row2, byte-row3, of-rows, same-places, bytes-state}
 
 -- ---- the first step
 
@@ -43,26 +44,14 @@ module _ (q r : List ℕ) (e : (k : ℕ) → k < 4 → elems at4 k 0 32 r ≡ pr
   unfolding premixOf xorWords f
   premixed = of-rows (λ p. laneByte j (cell p r) ≡ added (f p) (f (upper p)) (f (lower p)))
       (λ k h. ap (laneByte j) (cell-row0 k r ∙ ap row0 (e k h)) ∙ premix-byte j (row0 (elems at4 k 0 32 q)) (row0 (elems at4 k 0 32 q)) (row2 (elems at4 k 0 32 q)) refl refl refl
-      ∙ three k k (k + 8) (upper k) (lower k) (r0 k) (r0 k) (r2 k) (omega arith) (omega arith))
+      ∙ three k k (k + 8) (upper k) (lower k) (byte-row0 q j k) (byte-row0 q j k) (byte-row2 q j k) (omega arith) (omega arith))
       (λ k h. ap (laneByte j) (cell-row1 k r ∙ ap row1 (e k h)) ∙ premix-byte j (row1 (elems at4 k 0 32 q)) (row1 (elems at4 k 0 32 q)) (row3 (elems at4 k 0 32 q)) refl refl refl
-      ∙ three (k + 4) (k + 4) (k + 12) (upper (k + 4)) (lower (k + 4)) (r1 k) (r1 k) (r3 k) (omega arith) (omega arith))
+      ∙ three (k + 4) (k + 4) (k + 12) (upper (k + 4)) (lower (k + 4)) (byte-row1 q j k) (byte-row1 q j k) (byte-row3 q j k) (omega arith) (omega arith))
       (λ k h. ap (laneByte j) (cell-row2 k r ∙ ap row2 (e k h)) ∙ premix-byte j (row2 (elems at4 k 0 32 q)) (row0 (elems at4 k 0 32 q)) (row2 (elems at4 k 0 32 q)) refl refl refl
-      ∙ three (k + 8) k (k + 8) (upper (k + 8)) (lower (k + 8)) (r2 k) (r0 k) (r2 k) (omega arith) (omega arith))
+      ∙ three (k + 8) k (k + 8) (upper (k + 8)) (lower (k + 8)) (byte-row2 q j k) (byte-row0 q j k) (byte-row2 q j k) (omega arith) (omega arith))
       (λ k h. ap (laneByte j) (cell-row3 k r ∙ ap row3 (e k h)) ∙ premix-byte j (row3 (elems at4 k 0 32 q)) (row1 (elems at4 k 0 32 q)) (row3 (elems at4 k 0 32 q)) refl refl refl
-      ∙ three (k + 12) (k + 4) (k + 12) (upper (k + 12)) (lower (k + 12)) (r3 k) (r1 k) (r3 k) (omega arith) (omega arith))
+      ∙ three (k + 12) (k + 4) (k + 12) (upper (k + 12)) (lower (k + 12)) (byte-row3 q j k) (byte-row1 q j k) (byte-row3 q j k) (omega arith) (omega arith))
     where
-      r0 : (k : ℕ) → laneByte j (row0 (elems at4 k 0 32 q)) ≡ f k
-      r0 k = ap (laneByte j) (sym (cell-row0 k q))
-
-      r1 : (k : ℕ) → laneByte j (row1 (elems at4 k 0 32 q)) ≡ f (k + 4)
-      r1 k = ap (laneByte j) (sym (cell-row1 k q))
-
-      r2 : (k : ℕ) → laneByte j (row2 (elems at4 k 0 32 q)) ≡ f (k + 8)
-      r2 k = ap (laneByte j) (sym (cell-row2 k q))
-
-      r3 : (k : ℕ) → laneByte j (row3 (elems at4 k 0 32 q)) ≡ f (k + 12)
-      r3 k = ap (laneByte j) (sym (cell-row3 k q))
-
       three : {w x y : ℕ} (a b c b′ c′ : ℕ) → w ≡ f a → x ≡ f b → y ≡ f c → b ≡ b′ → c ≡ c′ → added w x y ≡ added (f a) (f b′) (f c′)
       three a b c b′ c′ ew ex ey eb ec = ap₂ (λ (m n : ℕ). bitXor m (xtime (xtime n))) ew (ap₂ bitXor (ex ∙ ap f eb) (ey ∙ ap f ec))
 
@@ -90,32 +79,29 @@ parts-turned : (c a : ℕ) → c < 256 → a < 256 → xtime (c ⊕ (xtime (xtim
 parts-turned c a hc ha =
     ap (λ (z : ℕ). xtime (c ⊕ z)) (⊕-comm (xtime (xtime a)) (xtime (xtime c))) ∙ three-parts c a hc ha ∙ ap (λ (z : ℕ). xtime c ⊕ z) (⊕-comm (xtime (xtime (xtime c))) (xtime (xtime (xtime a))))
 
-twice : (a x : ℕ) → a ⊕ (a ⊕ x) ≡ x
-twice a x = sym (⊕-assoc a a x) ∙ ap (λ (z : ℕ). z ⊕ x) (⊕-self a) ∙ zero-⊕ x
-
 -- each row, for a column whose bytes are sums
 module _ (a b c d : ℕ) (ha : a < 256) (hb : b < 256) (hc : c < 256) (hd : d < 256) where
   row-0 : dot 2 3 1 1 (a ⊕ (xtime (xtime a) ⊕ xtime (xtime c))) (b ⊕ (xtime (xtime b) ⊕ xtime (xtime d)))
       (c ⊕ (xtime (xtime c) ⊕ xtime (xtime a))) (d ⊕ (xtime (xtime d) ⊕ xtime (xtime b))) ≡ dot 14 11 13 9 a b c d
   unfolding dot
-  row-0 = simp (mul-1, mul-2, mul-3, mul-9, mul-11, mul-13, mul-14, three-parts a c ha hc, three-parts b d hb hd, ⊕-assoc, ⊕-left, ⊕-comm, twice)
+  row-0 = simp (mul-1, mul-2, mul-3, mul-9, mul-11, mul-13, mul-14, three-parts a c ha hc, three-parts b d hb hd, ⊕-assoc, ⊕-left, ⊕-comm, ⊕-cancel)
 
   row-1 : dot 1 2 3 1 (a ⊕ (xtime (xtime a) ⊕ xtime (xtime c))) (b ⊕ (xtime (xtime b) ⊕ xtime (xtime d)))
       (c ⊕ (xtime (xtime c) ⊕ xtime (xtime a))) (d ⊕ (xtime (xtime d) ⊕ xtime (xtime b))) ≡ dot 9 14 11 13 a b c d
   unfolding dot
-  row-1 = simp (mul-1, mul-2, mul-3, mul-9, mul-11, mul-13, mul-14, three-parts b d hb hd, parts-turned c a hc ha, ⊕-assoc, ⊕-left, ⊕-comm, twice)
+  row-1 = simp (mul-1, mul-2, mul-3, mul-9, mul-11, mul-13, mul-14, three-parts b d hb hd, parts-turned c a hc ha, ⊕-assoc, ⊕-left, ⊕-comm, ⊕-cancel)
 
   row-2 : dot 1 1 2 3 (a ⊕ (xtime (xtime a) ⊕ xtime (xtime c))) (b ⊕ (xtime (xtime b) ⊕ xtime (xtime d)))
       (c ⊕ (xtime (xtime c) ⊕ xtime (xtime a))) (d ⊕ (xtime (xtime d) ⊕ xtime (xtime b))) ≡ dot 13 9 14 11 a b c d
   unfolding dot
-  row-2 = simp (mul-1, mul-2, mul-3, mul-9, mul-11, mul-13, mul-14, parts-turned c a hc ha, parts-turned d b hd hb, ⊕-assoc, ⊕-left, ⊕-comm, twice)
+  row-2 = simp (mul-1, mul-2, mul-3, mul-9, mul-11, mul-13, mul-14, parts-turned c a hc ha, parts-turned d b hd hb, ⊕-assoc, ⊕-left, ⊕-comm, ⊕-cancel)
 
   row-3 : dot 3 1 1 2 (a ⊕ (xtime (xtime a) ⊕ xtime (xtime c))) (b ⊕ (xtime (xtime b) ⊕ xtime (xtime d)))
       (c ⊕ (xtime (xtime c) ⊕ xtime (xtime a))) (d ⊕ (xtime (xtime d) ⊕ xtime (xtime b))) ≡ dot 11 13 9 14 a b c d
   unfolding dot
-  row-3 = simp (mul-1, mul-2, mul-3, mul-9, mul-11, mul-13, mul-14, three-parts a c ha hc, parts-turned d b hd hb, ⊕-assoc, ⊕-left, ⊕-comm, twice)
+  row-3 = simp (mul-1, mul-2, mul-3, mul-9, mul-11, mul-13, mul-14, three-parts a c ha hc, parts-turned d b hd hb, ⊕-assoc, ⊕-left, ⊕-comm, ⊕-cancel)
 
-pub mix-premix : (s : List ℕ) → Bytes s → mixColumns (premix s) ≡ invMixColumns s
+mix-premix : (s : List ℕ) → Bytes s → mixColumns (premix s) ≡ invMixColumns s
 unfolding mixColumns invMixColumns mixWords premix
 mix-premix [] h = refl
 mix-premix (a ∷ []) h = refl

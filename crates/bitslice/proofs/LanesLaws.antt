@@ -1,7 +1,7 @@
--- The circuit at words is the S-box of FIPS 197 at the byte in each bit position: the circuit commutes with taking a bit, and at bits one
--- test goes through all 256 bytes. The same for the inverse.
+-- The circuit at words is the S-box of FIPS 197 at the byte in each bit position: the circuit commutes with taking a bit, and at words of 256 bits
+-- that have each byte once, one run of it is tested at all 256. The same for the inverse.
 use mathlib.Core.Path.{_≡_, refl, sym, ap, ap₂, _∙_, subst}
-use mathlib.Core.Bool.{Bool}
+use mathlib.Core.Bool.{Bool, true, false}
 use mathlib.Core.List.{List, [], _∷_, _++_, map}
 use Prim.Native.Nat.{ℕ, zero, suc, _+_, _-_, _*_, _/_, _%_, _^_, _<_}
 use native.Mathlib.Omega.{arith}
@@ -13,7 +13,9 @@ use lib.ListN.{length, getD, List·getD-map}
 use Rattle.octets.specs.Octets.{_⊕_}
 use Rattle.octets.proofs.XorLaws.{digit}
 use Rattle.octets.proofs.TableLaws.{both, both-left, both-right, same-below}
-use Rattle.gf256.specs.Field.{xtime, times, mul, factor, power, inverse, bit, ofBits, affine, invAffine, sub, invSub}
+use Rattle.gf256.specs.Field.{xtime, bit, ofBits, affine, invAffine, sub, invSub}
+use Rattle.gf256.proofs.InverseLaws.{inverses}
+use Rattle.gf256.proofs.SboxLaws.{subListed, invSubListed, sub-is, invSub-is}
 use Rattle.bitslice.specs.Circuit.{Gate, xor, and, gate, run, pick, reads, Part, through, constantOf, sboxOf, invSboxOf, middleOf}
 use Rattle.bitslice.specs.Circuit.{firstInputs, firstInputsOf, secondInputs, secondInputsOf, norm, normOf, inversion, inversionOf, products, productsOf, outputs, outputsOf}
 use Rattle.bitslice.specs.Circuit.{invFirstInputs, invFirstInputsOf, invSecondInputs, invSecondInputsOf, invOutputs, invOutputsOf}
@@ -41,7 +43,7 @@ map-++ f (x ∷ s) t = ap (λ (r : List ℕ). f x ∷ r) (map-++ f s t)
 
 -- the circuit at one lane
 module _ (j : ℕ) where
-  pub at : (e : List ℕ) (i : ℕ) → lane j (getD e i 0) ≡ getD (map (lane j) e) i 0
+  at : (e : List ℕ) (i : ℕ) → lane j (getD e i 0) ≡ getD (map (lane j) e) i 0
   at e i = sym (ap (getD (map (lane j) e) i) (sym (lane-zero j)) ∙ List·getD-map (lane j) e i 0)
 
   at-gate : (g : Gate) (e : List ℕ) → lane j (gate g e) ≡ gate g (map (lane j) e)
@@ -134,31 +136,61 @@ module _ (j : ℕ) where
       let c = constant-lane one q in
       inv-outputs-lane _ _ (middle-lane _ _ _ _ (inv-first-lane _ _ c) (inv-second-lane _ _ _ _ c (inv-first-lane _ _ c)))
 
--- ---- the circuit at bits is the S-box: one test at each of the 256 lists of eight bits
-abbrev pub every : ℕ → (List ℕ → Bool) → Bool
-every zero f = f []
-every (suc n) f = both (every n (λ l. f (0 ∷ l))) (every n (λ l. f (1 ∷ l)))
+-- ---- tests at each of the 256 lists of eight bits
+abbrev allBits : ℕ → (List ℕ → Bool) → Bool
+allBits zero f = f []
+allBits (suc n) f = both (allBits n (λ l. f (0 ∷ l))) (allBits n (λ l. f (1 ∷ l)))
 
-pub every-at : (f : List ℕ → Bool) (j : ℕ) (q : List ℕ) → T (every (length q) f) → T (f (map (lane j) q))
-every-at f j [] t = t
-every-at f j (w ∷ q) t =
-    digit (λ x. T (f (x ∷ map (lane j) q))) (every-at (λ l. f (0 ∷ l)) j q (both-left (every (length q) (λ l. f (0 ∷ l))) (every (length q) (λ l. f (1 ∷ l))) t))
-    (every-at (λ l. f (1 ∷ l)) j q (both-right (every (length q) (λ l. f (0 ∷ l))) (every (length q) (λ l. f (1 ∷ l))) t)) (lane j w) (lane-bit j w)
+allBits-at : (f : List ℕ → Bool) (j : ℕ) (q : List ℕ) → T (allBits (length q) f) → T (f (map (lane j) q))
+allBits-at f j [] t = t
+allBits-at f j (w ∷ q) t =
+    digit (λ x. T (f (x ∷ map (lane j) q))) (allBits-at (λ l. f (0 ∷ l)) j q (both-left (allBits (length q) (λ l. f (0 ∷ l))) (allBits (length q) (λ l. f (1 ∷ l))) t))
+    (allBits-at (λ l. f (1 ∷ l)) j q (both-right (allBits (length q) (λ l. f (0 ∷ l))) (allBits (length q) (λ l. f (1 ∷ l))) t)) (lane j w) (lane-bit j w)
 
-right : List ℕ → Bool
-right l = eqb (value (sboxOf 1 l)) (sub (value l))
+-- two lists are equal, by one test
+abbrev alike : List ℕ → List ℕ → Bool
+alike [] [] = true
+alike [] (y ∷ ys) = false
+alike (x ∷ xs) [] = false
+alike (x ∷ xs) (y ∷ ys) = both (eqb x y) (alike xs ys)
 
-tested : T (every 8 right)
-unfolding right sboxOf firstInputs firstInputsOf secondInputs secondInputsOf norm normOf inversion inversionOf products productsOf constantOf outputs outputsOf _⊕_ xtime times mul
-    factor power inverse bit ofBits affine sub
+alike→eq : (xs ys : List ℕ) → T (alike xs ys) → xs ≡ ys
+alike→eq [] [] t = refl
+alike→eq [] (y ∷ ys) t = absurd t
+alike→eq (x ∷ xs) [] t = absurd t
+alike→eq (x ∷ xs) (y ∷ ys) t = ap₂ _∷_ (eqb→eq x y (both-left (eqb x y) (alike xs ys) t)) (alike→eq xs ys (both-right (eqb x y) (alike xs ys) t))
+
+-- a 1 in each of 256 bits
+wide : ℕ
+wide = 2 ^ 256 - 1
+
+-- eight words of 256 bits that have each byte once: bit b of word i is bit i of b
+column : ℕ → ℕ
+column i = wide / (2 ^ (2 ^ i) + 1) * 2 ^ (2 ^ i)
+
+columns : List ℕ
+columns = column 0 ∷ column 1 ∷ column 2 ∷ column 3 ∷ column 4 ∷ column 5 ∷ column 6 ∷ column 7 ∷ []
+
+-- the bits l are those of columns and of wide at the number of l
+placed : List ℕ → Bool
+placed l = both (eqb (lane (value l) wide) 1) (alike (map (lane (value l)) columns) l)
+
+all-placed : T (allBits 8 placed)
+unfolding placed columns column wide lane
+all-placed = tt
+
+-- the words s have the values of f, in bit b that of f b: tested at the bits l of b
+right : (ℕ → ℕ) → List ℕ → List ℕ → Bool
+right f s l = eqb (value (map (lane (value l)) s)) (f (value l))
+
+tested : T (allBits 8 (right subListed (sboxOf wide columns)))
+unfolding right columns column wide lane sboxOf firstInputs firstInputsOf secondInputs secondInputsOf norm normOf inversion inversionOf products productsOf constantOf outputs outputsOf
+    inverses bit ofBits affine
 tested = tt
 
-inv-right : List ℕ → Bool
-inv-right l = eqb (value (invSboxOf 1 l)) (invSub (value l))
-
-inv-tested : T (every 8 inv-right)
-unfolding inv-right invSboxOf invFirstInputs invFirstInputsOf invSecondInputs invSecondInputsOf norm normOf inversion inversionOf products productsOf constantOf invOutputs invOutputsOf
-    _⊕_ xtime times mul factor power inverse bit ofBits invAffine invSub
+inv-tested : T (allBits 8 (right invSubListed (invSboxOf wide columns)))
+unfolding right columns column wide lane invSboxOf invFirstInputs invFirstInputsOf invSecondInputs invSecondInputsOf norm normOf inversion inversionOf products productsOf constantOf
+    invOutputs invOutputsOf inverses bit ofBits invAffine
 inv-tested = tt
 
 all-ones : (j : ℕ) → j < 32 → lane j ones ≡ 1
@@ -173,20 +205,32 @@ value-lt j (suc n) (w ∷ q) e =
     let h : value (map (lane j) q) < 2 ^ n = value-lt j n q (omega arith) in
     omega (arith, lane-bit j w, pow-suc 2 n)
 
+-- a circuit that commutes with taking a bit, and that has the values of f at columns, takes each lane's byte to f of it
+module _ (circuit : ℕ → List ℕ → List ℕ) (commutes : (j one : ℕ) (q : List ℕ) → map (lane j) (circuit one q) ≡ circuit (lane j one) (map (lane j) q)) where
+  at-bits : (l : List ℕ) → T (placed l) → circuit 1 l ≡ map (lane (value l)) (circuit wide columns)
+  unfolding placed
+  at-bits l t =
+      let b = value l in
+      let p = eqb (lane b wide) 1 in
+      let q = alike (map (lane b) columns) l in
+      sym (commutes b wide columns ∙ ap₂ circuit (eqb→eq (lane b wide) 1 (both-left p q t)) (alike→eq (map (lane b) columns) l (both-right p q t)))
+
+  byte-is : (f : ℕ → ℕ) → T (allBits 8 (right f (circuit wide columns))) → (j : ℕ) (q : List ℕ) → j < 32 → length q ≡ 8 → laneByte j (circuit ones q) ≡ f (laneByte j q)
+  unfolding laneByte right
+  byte-is f t j q hj e =
+      let l = map (lane j) q in
+      let s = circuit wide columns in
+      let p = allBits-at placed j q (subst (λ (n : ℕ). T (allBits n placed)) (sym e) all-placed) in
+      let r = allBits-at (right f s) j q (subst (λ (n : ℕ). T (allBits n (right f s))) (sym e) t) in
+      ap value (commutes j ones q ∙ ap (λ (x : ℕ). circuit x l) (all-ones j hj) ∙ at-bits l p) ∙ eqb→eq (value (map (lane (value l)) s)) (f (value l)) r
+
 -- each lane's byte goes through the S-box of FIPS 197, or through its inverse
 pub sbox-lanes : (j : ℕ) (q : List ℕ) → j < 32 → length q ≡ 8 → laneByte j (sboxOf ones q) ≡ sub (laneByte j q)
-unfolding laneByte right
-sbox-lanes j q hj e =
-    ap value (sbox-lane j ones q ∙ ap (λ (x : ℕ). sboxOf x (map (lane j) q)) (all-ones j hj))
-    ∙ eqb→eq (value (sboxOf 1 (map (lane j) q))) (sub (value (map (lane j) q)))
-    (every-at right j q (subst (λ (n : ℕ). T (every n right)) (sym e) tested))
+unfolding laneByte
+sbox-lanes j q hj e = byte-is sboxOf (λ j one q. sbox-lane j one q) subListed tested j q hj e ∙ sym (sub-is (laneByte j q) (value-lt j 8 q e))
 
 pub inv-sbox-lanes : (j : ℕ) (q : List ℕ) → j < 32 → length q ≡ 8 → laneByte j (invSboxOf ones q) ≡ invSub (laneByte j q)
-unfolding laneByte inv-right
-inv-sbox-lanes j q hj e =
-    ap value (inv-sbox-lane j ones q ∙ ap (λ (x : ℕ). invSboxOf x (map (lane j) q)) (all-ones j hj))
-    ∙ eqb→eq (value (invSboxOf 1 (map (lane j) q))) (invSub (value (map (lane j) q)))
-    (every-at inv-right j q (subst (λ (n : ℕ). T (every n inv-right)) (sym e) inv-tested))
+inv-sbox-lanes j q hj e = byte-is invSboxOf (λ j one q. inv-sbox-lane j one q) invSubListed inv-tested j q hj e ∙ sym (invSub-is (laneByte j q))
 
 -- ---- a sum, word by word
 
@@ -216,7 +260,7 @@ length-xorWords (x ∷ xs) (k ∷ ks) e = ap suc (length-xorWords xs ks (omega a
 doubles : List ℕ → Bool
 doubles l = eqb (value (doubledWords l)) (xtime (value l))
 
-doubles-tested : T (every 8 doubles)
+doubles-tested : T (allBits 8 doubles)
 unfolding doubles xtime _⊕_
 doubles-tested = tt
 
@@ -232,7 +276,7 @@ unfolding laneByte doubles
 double-byte j p e =
     ap value (doubled-lane j p)
     ∙ eqb→eq (value (doubledWords (map (lane j) p))) (xtime (value (map (lane j) p)))
-    (every-at doubles j p (subst (λ (n : ℕ). T (every n doubles)) (sym e) doubles-tested))
+    (allBits-at doubles j p (subst (λ (n : ℕ). T (allBits n doubles)) (sym e) doubles-tested))
 
 pub laneByte-byte : (j : ℕ) (q : List ℕ) → length q ≡ 8 → laneByte j q < 256
 unfolding laneByte

@@ -28,12 +28,12 @@ pub round-none : (w s : List ℕ) → xors s (roundKey w 0) ≡ rounds 0 w (xors
 unfolding rounds
 round-none w s = refl
 
-pub round-more : (i : ℕ) (w s t k r : List ℕ) → xors t (roundKey w i) ≡ rounds i w (xors s (roundKey w 0)) → k ≡ roundKey w i
+round-more : (i : ℕ) (w s t k r : List ℕ) → xors t (roundKey w i) ≡ rounds i w (xors s (roundKey w 0)) → k ≡ roundKey w i
     → r ≡ mixColumns (shiftRows (subBytes (xors t k))) → xors r (roundKey w (i + 1)) ≡ rounds (i + 1) w (xors s (roundKey w 0))
 unfolding rounds
 round-more i w s t k r e ek er = rw (er, ek, e, add-one)
 
-pub round-last : (n i : ℕ) (w s t k l r : List ℕ) → xors t (roundKey w i) ≡ rounds i w (xors s (roundKey w 0)) → i ≡ n → k ≡ roundKey w n
+round-last : (n i : ℕ) (w s t k l r : List ℕ) → xors t (roundKey w i) ≡ rounds i w (xors s (roundKey w 0)) → i ≡ n → k ≡ roundKey w n
     → l ≡ roundKey w (n + 1) → r ≡ xors (shiftRows (subBytes (xors t k))) l → r ≡ cipher n w s
 unfolding cipher
 round-last n i w s t k l r e ei ek el er =
@@ -54,13 +54,13 @@ undone-none : (i : ℕ) (w t : List ℕ) → i ≡ 0 → t ≡ undone i w t
 unfolding undone
 undone-none i w t h = ap (λ (m : ℕ). undone m w t) (sym h)
 
-pub undone-more : (i : ℕ) (w t k r q : List ℕ) → 0 < i → undone i w t ≡ q → k ≡ roundKey w (i - 1)
+undone-more : (i : ℕ) (w t k r q : List ℕ) → 0 < i → undone i w t ≡ q → k ≡ roundKey w (i - 1)
     → r ≡ xors (invSubBytes (invShiftRows (invMixColumns t))) k → undone (i - 1) w r ≡ q
 unfolding undone
 undone-more zero w t k r q h e ek er = absurd (not-suc-le-zero h)
 undone-more (suc i) w t k r q h e ek er = let n : suc i - 1 ≡ i = omega arith in rw (er, ek, n) e
 
-pub undone-last : (n i : ℕ) (w s k l t₀ t : List ℕ) → k ≡ roundKey w n → l ≡ roundKey w (n + 1) → t₀ ≡ xors (invSubBytes (invShiftRows (xors s l))) k
+undone-last : (n i : ℕ) (w s k l t₀ t : List ℕ) → k ≡ roundKey w n → l ≡ roundKey w (n + 1) → t₀ ≡ xors (invSubBytes (invShiftRows (xors s l))) k
     → undone i w t ≡ undone n w t₀ → i ≡ 0 → t ≡ invCipher n w s
 unfolding invCipher
 undone-last n i w s k l t₀ t ek el e₀ e ei =
@@ -69,7 +69,7 @@ undone-last n i w s k l t₀ t ek el e₀ e ei =
 
 -- ---- the round keys
 
-pub sliced-key : (m : ℕ) (w ks x : List ℕ) (i j : ℕ) → Sliced m w ks → i < m → j < 32 → x ≡ take 128 (drop (i * 128) ks) → state j x ≡ roundKey w i
+sliced-key : (m : ℕ) (w ks x : List ℕ) (i j : ℕ) → Sliced m w ks → i < m → j < 32 → x ≡ take 128 (drop (i * 128) ks) → state j x ≡ roundKey w i
 unfolding Sliced
 sliced-key m w ks x i j s h l e = ap (state j) e ∙ s i j h l
 
@@ -95,7 +95,7 @@ sliced-more w ks x ks′ i h l e s z k j hk hj =
 -- ---- a block's columns are four neighbouring words
 
 -- a block by its columns
-pub block-of : (b : ℕ) (q : List ℕ) (w x y z : ℕ) → elems row b 0 4 q ≡ w ∷ x ∷ y ∷ z ∷ [] → block b q ≡ column w ++ (column x ++ (column y ++ column z))
+block-of : (b : ℕ) (q : List ℕ) (w x y z : ℕ) → elems row b 0 4 q ≡ w ∷ x ∷ y ∷ z ∷ [] → block b q ≡ column w ++ (column x ++ (column y ++ column z))
 unfolding block
 block-of b q w x y z e =
     ap₂ _++_ (ap column (ap (λ (l : List ℕ). getD l 0 0) e)) (ap₂ _++_ (ap column (ap (λ (l : List ℕ). getD l 1 0) e))
@@ -114,13 +114,13 @@ four-columns s k w x y z ew ex ey ez =
     ap₂ _++_ ew (ap₂ _++_ ex (ap₂ _++_ ey ez)) ∙ sym (rw (t₀, t₁, t₂))
 
 -- each lane is the lane of a block
-pub of-lanes : (P : ℕ → Type 0) → ((b : ℕ) → b < 32 → P (laneOf b)) → (j : ℕ) → j < 32 → P j
+of-lanes : (P : ℕ → Type 0) → ((b : ℕ) → b < 32 → P (laneOf b)) → (j : ℕ) → j < 32 → P j
 of-lanes P p j h =
     let e : laneOf (4 * (j % 8) + j / 8) ≡ j = omega arith in
     subst P e (p (4 * (j % 8) + j / 8) (omega arith))
 
 -- the first column of a block
-pub first-column : (f : ℕ → ℕ) (x y : ℕ) (q r : List ℕ) → getD q 0 0 ≡ x → getD r 0 0 ≡ y → block 0 r ≡ map f (block 0 q) → column y ≡ map f (column x)
+first-column : (f : ℕ → ℕ) (x y : ℕ) (q r : List ℕ) → getD q 0 0 ≡ x → getD r 0 0 ≡ y → block 0 r ≡ map f (block 0 q) → column y ≡ map f (column x)
 unfolding block column
 first-column f x y q r ex ey e =
     ap column (sym ey) ∙ ap (take 4) e ∙ ap (λ (n : ℕ). map f (column n)) ex
@@ -224,7 +224,7 @@ lent-part : (ks : List ℕ) (a e : ℕ) → e ≡ a + 128 → take (e - a) (drop
 lent-part ks a e h = let n : e - a ≡ 128 = omega arith in ap (λ (m : ℕ). take m (drop a ks)) n
 
 module _ (n : ℕ) (w ks : List ℕ) (s : Sliced (n + 2) w ks) (j : ℕ) (h : j < 32) where
-  pub key-part : (i a e : ℕ) → i < n + 2 → a ≡ i * 128 → e ≡ a + 128 → state j (take (e - a) (drop a ks)) ≡ roundKey w i
+  key-part : (i a e : ℕ) → i < n + 2 → a ≡ i * 128 → e ≡ a + 128 → state j (take (e - a) (drop a ks)) ≡ roundKey w i
   key-part i a e l ea ee = sliced-key (n + 2) w ks (take (e - a) (drop a ks)) i j s l h (lent-part ks a e ee ∙ ap (λ (m : ℕ). take 128 (drop m ks)) ea)
 
   pub round-again : (i : ℕ) (q₀ q r : List ℕ) (a e : ℕ) → i < n → a ≡ i * 128 → e ≡ a + 128

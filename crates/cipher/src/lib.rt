@@ -18,7 +18,8 @@ const RCON: [u8; 10] = [0x01, 0x02, 0x04, 0x08, 0x10, 0x20, 0x40, 0x80, 0x1b, 0x
 // The round key k, and a round (5.1) up to its own round key.
 fn round(q: &mut [u32; 128], k: &[u32])
     requires { ⌜ (length (now q) ≡ 128) × (length (now k) ≡ 128) ⌝ }
-    ensures { λ _. ⌜ (length (now (q .exit)) ≡ 128) × ((j : ℕ) → j < 32 → state j (now (q .exit)) ≡ mixColumns (shiftRows (subBytes (xors (state j (now (q .entry))) (state j (now (k .entry))))))) ⌝ }
+    ensures { λ _. ⌜ (length (now (q .exit)) ≡ 128)
+        × ((j : ℕ) → j < 32 → state j (now (q .exit)) ≡ mixColumns (shiftRows (subBytes (xors (state j (now (q .entry))) (state j (now (k .entry))))))) ⌝ }
 {
     planes::shift_rows(q, k);
     planes::sub_bytes(q);
@@ -40,7 +41,8 @@ fn last_round(q: &mut [u32; 128], k: &[u32], l: &[u32])
 fn inv_last_round(q: &mut [u32; 128], k: &[u32], l: &[u32])
     requires { ⌜ (length (now q) ≡ 128) × (length (now k) ≡ 128) × (length (now l) ≡ 128) ⌝ }
     ensures { λ _. ⌜ (length (now (q .exit)) ≡ 128) × ((j : ℕ) → j < 32
-        → state j (now (q .exit)) ≡ xors (invSubBytes (invShiftRows (xors (state j (now (q .entry))) (state j (now (l .entry)))))) (state j (now (k .entry)))) ⌝ }
+        → state j (now (q .exit))
+        ≡ xors (invSubBytes (invShiftRows (xors (state j (now (q .entry))) (state j (now (l .entry)))))) (state j (now (k .entry)))) ⌝ }
 {
     planes::xor_words(q, l);
     planes::inv_sub_bytes(q);
@@ -61,7 +63,8 @@ fn inv_round(q: &mut [u32; 128], k: &[u32])
 // CIPHER (5.1) of each block: n rounds and the last, with the sliced key schedule k.
 pub fn encrypt_blocks(q: &mut [u32; 128], k: &[u32], n: usize)
     requires { ⌜ (length (now q) ≡ 128) × ((n + 2) * 128 ≤ length (now k)) ⌝ }
-    ensures { λ _. ⌜ (length (now (q .exit)) ≡ 128) × ((w : List ℕ) → Sliced (n + 2) w (now (k .entry)) → (b : ℕ) → b < 32 → block b (now (q .exit)) ≡ cipher n w (block b (now (q .entry)))) ⌝ }
+    ensures { λ _. ⌜ (length (now (q .exit)) ≡ 128)
+        × ((w : List ℕ) → Sliced (n + 2) w (now (k .entry)) → (b : ℕ) → b < 32 → block b (now (q .exit)) ≡ cipher n w (block b (now (q .entry)))) ⌝ }
 {
     planes::transpose(q);
     let mut i: usize = 0;
@@ -81,7 +84,8 @@ pub fn encrypt_blocks(q: &mut [u32; 128], k: &[u32], n: usize)
 // INVCIPHER (5.3) of each block: the last round undone, and n rounds, with the sliced key schedule k.
 pub fn decrypt_blocks(q: &mut [u32; 128], k: &[u32], n: usize)
     requires { ⌜ (length (now q) ≡ 128) × ((n + 2) * 128 ≤ length (now k)) ⌝ }
-    ensures { λ _. ⌜ (length (now (q .exit)) ≡ 128) × ((w : List ℕ) → Sliced (n + 2) w (now (k .entry)) → (b : ℕ) → b < 32 → block b (now (q .exit)) ≡ invCipher n w (block b (now (q .entry)))) ⌝ }
+    ensures { λ _. ⌜ (length (now (q .exit)) ≡ 128)
+        × ((w : List ℕ) → Sliced (n + 2) w (now (k .entry)) → (b : ℕ) → b < 32 → block b (now (q .exit)) ≡ invCipher n w (block b (now (q .entry)))) ⌝ }
 {
     planes::transpose(q);
     let f = n * 128;

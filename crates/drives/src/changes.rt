@@ -3,7 +3,7 @@ use crate::damage;
 use crate::openings;
 use crate::report;
 
-fn revokes(image: &mut [u8], drive: &[u8], what: &[u8], slot: u8, filler: &[u8], number: u8) {
+fn revokes(image: &mut [u8], drive: u64, what: &[u8], slot: u8, filler: &[u8], number: u8) {
     let r = revoking::revoke(image, slot, filler);
     report::slot_line(drive, slot, what, header::number_of(r) == number);
 }
@@ -21,7 +21,7 @@ fn area_is(image: &[u8], sector: u32, filler: &[u8]) -> bool {
     octets::equal(&image[at..end], filler)
 }
 
-pub fn revoking_one(image: &mut [u8], drive: &[u8], filler: &[u8]) {
+pub fn revoking_one(image: &mut [u8], drive: u64, filler: &[u8]) {
     revokes(
         image,
         drive,
@@ -42,7 +42,7 @@ pub fn revoking_one(image: &mut [u8], drive: &[u8], filler: &[u8]) {
 }
 
 // Slot 2 was revoked; the field at 296 is its area's start.
-pub fn after_revoking(drive: &[u8], image: &[u8], key: &[u8], filler: &[u8]) {
+pub fn after_revoking(drive: u64, image: &[u8], key: &[u8], filler: &[u8]) {
     let filled = area_is(image, damage::be32_at(image, 296), filler);
     report::slot_line(drive, 2, b"holds the filler", filled);
     openings::refused_by_number(
@@ -66,7 +66,7 @@ pub fn after_revoking(drive: &[u8], image: &[u8], key: &[u8], filler: &[u8]) {
 // Adds a passphrase of ours, with a count of 1,000.
 fn adds(
     image: &mut [u8],
-    drive: &[u8],
+    drive: u64,
     what: &[u8],
     slot: u8,
     key: &[u8],
@@ -79,7 +79,7 @@ fn adds(
 }
 
 // Slot 7, whose record lies across a sector's edge, is added; the wrong key has the volume key's length.
-pub fn adding_one(image: &mut [u8], drive: &[u8], key: &[u8], wrong: &[u8], random: &[u8]) {
+pub fn adding_one(image: &mut [u8], drive: u64, key: &[u8], wrong: &[u8], random: &[u8]) {
     adds(
         image,
         drive,
@@ -110,13 +110,13 @@ pub fn adding_one(image: &mut [u8], drive: &[u8], key: &[u8], wrong: &[u8], rand
     adds(image, drive, b"is added", 7, key, random, 0);
 }
 
-pub fn after_adding(drive: &[u8], image: &[u8], key: &[u8]) {
+pub fn after_adding(drive: u64, image: &[u8], key: &[u8]) {
     openings::opens(drive, image, 7, b"a new passphrase", key);
     openings::opens(drive, image, 1, b"first passphrase", key);
 }
 
 // All slots of cryptsetup's are revoked: slot 7 of ours is left, and stays.
-pub fn leaving_one(image: &mut [u8], drive: &[u8], filler: &[u8]) {
+pub fn leaving_one(image: &mut [u8], drive: u64, filler: &[u8]) {
     revokes(image, drive, b"is revoked", 1, filler, 0);
     revokes(image, drive, b"is revoked", 4, filler, 0);
     revokes(image, drive, b"is revoked", 8, filler, 0);
@@ -130,7 +130,7 @@ pub fn leaving_one(image: &mut [u8], drive: &[u8], filler: &[u8]) {
     );
 }
 
-pub fn after_leaving(drive: &[u8], image: &[u8], key: &[u8]) {
+pub fn after_leaving(drive: u64, image: &[u8], key: &[u8]) {
     openings::refused_by_search(
         drive,
         b"search refuses slot 8's passphrase (17)",
@@ -144,7 +144,7 @@ pub fn after_leaving(drive: &[u8], image: &[u8], key: &[u8]) {
 // Changes the passphrase of slot 7 to a new one in the slot, with a count of 1,000.
 fn changes_seven(
     image: &mut [u8],
-    drive: &[u8],
+    drive: u64,
     what: &[u8],
     old: &[u8],
     to: u8,
@@ -168,7 +168,7 @@ fn changes_seven(
 }
 
 // Slot 7, the only one left, is changed to slot 3.
-pub fn changing_one(image: &mut [u8], drive: &[u8], filler: &[u8], random: &[u8]) {
+pub fn changing_one(image: &mut [u8], drive: u64, filler: &[u8], random: &[u8]) {
     let old = b"a new passphrase";
     changes_seven(
         image,
@@ -202,7 +202,7 @@ pub fn changing_one(image: &mut [u8], drive: &[u8], filler: &[u8], random: &[u8]
     );
 }
 
-pub fn after_changing(drive: &[u8], image: &[u8], key: &[u8]) {
+pub fn after_changing(drive: u64, image: &[u8], key: &[u8]) {
     openings::refused_by_number(
         drive,
         b"is disabled (15)",

@@ -32,30 +32,31 @@ fn openings_refuse(image: &[u8], number: u8) -> bool {
     header::number_of(first) == number && header::number_of(second) == number
 }
 
-fn changes_refuse(image: &mut [u8], number: u8) -> bool {
+// The numbers of calls on nothing.
+fn read_none(image: &[u8]) -> u8 {
     let mut none = [0u8; 0];
+    header::number_of(payload::read(image, b"", PayloadUnit(0), PayloadUnit(0), &mut none))
+}
+
+fn write_none(image: &mut [u8]) -> u8 {
+    header::number_of(payload::write(image, b"", PayloadUnit(0), PayloadUnit(0), b""))
+}
+
+fn add_none(image: &mut [u8]) -> u8 {
     let salt = [0u8; 32];
+    header::number_of(adding::add(image, 3, b"", b"", &salt, 0, b""))
+}
+
+fn changes_refuse(image: &mut [u8], number: u8) -> bool {
     let revoked = header::number_of(revoking::revoke(image, 1, b""));
-    let read = header::number_of(payload::read(
-        image,
-        b"",
-        PayloadUnit(0),
-        PayloadUnit(0),
-        &mut none,
-    ));
-    let written = header::number_of(payload::write(
-        image,
-        b"",
-        PayloadUnit(0),
-        PayloadUnit(0),
-        b"",
-    ));
-    let added = header::number_of(adding::add(image, 3, b"", b"", &salt, 0, b""));
+    let read = read_none(image);
+    let written = write_none(image);
+    let added = add_none(image);
     revoked == number && read == number && written == number && added == number
 }
 
 // All calls on the image with the four bytes at index at changed; then they are put back.
-fn damaged(image: &mut [u8], drive: &[u8], what: &[u8], at: usize, value: u32, number: u8) {
+fn damaged(image: &mut [u8], drive: u64, what: &[u8], at: usize, value: u32, number: u8) {
     let kept = be32_at(image, at);
     put_be32(image, at, value);
     let opened = openings_refuse(image, number);
@@ -65,7 +66,7 @@ fn damaged(image: &mut [u8], drive: &[u8], what: &[u8], at: usize, value: u32, n
 }
 
 // All calls on the image's first len bytes.
-fn cut(image: &mut [u8], drive: &[u8], what: &[u8], len: usize, number: u8) {
+fn cut(image: &mut [u8], drive: u64, what: &[u8], len: usize, number: u8) {
     if image.len() < len {
         report::line(drive, what, false);
         return;
@@ -76,18 +77,18 @@ fn cut(image: &mut [u8], drive: &[u8], what: &[u8], len: usize, number: u8) {
     report::line(drive, what, opened && changed);
 }
 
-pub fn start_of_header(image: &mut [u8], drive: &[u8]) {
+pub fn start_of_header(image: &mut [u8], drive: u64) {
     damaged(image, drive, b"damaged magic (2)", 0, 0x4C554B54, 2);
     damaged(image, drive, b"version 2 (3)", 4, 0xBABE0002, 3);
 }
 
-pub fn names(image: &mut [u8], drive: &[u8]) {
+pub fn names(image: &mut [u8], drive: u64) {
     damaged(image, drive, b"another cipher name (4)", 8, 0x61657200, 4);
     damaged(image, drive, b"another cipher mode (4)", 40, 0x63746200, 4);
     damaged(image, drive, b"another hash (4)", 72, 0x6D643500, 4);
 }
 
-pub fn numbers(image: &mut [u8], drive: &[u8]) {
+pub fn numbers(image: &mut [u8], drive: u64) {
     damaged(image, drive, b"16 key bytes (4)", 108, 16, 4);
     damaged(image, drive, b"checksum count 0 (5)", 164, 0, 5);
     damaged(
@@ -109,7 +110,7 @@ pub fn numbers(image: &mut [u8], drive: &[u8]) {
 }
 
 // Slot 1's record is at 208, the free slot 3's at 304.
-pub fn records(image: &mut [u8], drive: &[u8]) {
+pub fn records(image: &mut [u8], drive: u64) {
     damaged(
         image,
         drive,
@@ -123,12 +124,12 @@ pub fn records(image: &mut [u8], drive: &[u8]) {
     damaged(image, drive, b"slot 3 with 4,001 stripes (5)", 348, 4001, 5);
 }
 
-pub fn areas(image: &mut [u8], drive: &[u8]) {
+pub fn areas(image: &mut [u8], drive: u64) {
     damaged(image, drive, b"slot 3's area at sector 1 (6)", 344, 1, 6);
     damaged(image, drive, b"slot 3's area over slot 1's (6)", 344, 9, 6);
 }
 
-pub fn lengths(image: &mut [u8], drive: &[u8]) {
+pub fn lengths(image: &mut [u8], drive: u64) {
     cut(image, drive, b"cut to 512 bytes (1)", 512, 1);
     cut(image, drive, b"cut inside a sector (1)", 1025, 1);
     cut(image, drive, b"cut after the header (6)", 1024, 6);

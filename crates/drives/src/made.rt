@@ -1,20 +1,6 @@
-// Bytes that are made and not stored: the volume key, the payload's plaintext, filler and random stripes; and room for them and for a drive.
+// Room for a drive, for filler and for random stripes.
 ghost use mathlib.Core.Path.{_≡_};
-ghost use Prim.Native.Nat.{_<_};
 ghost use lib.ListN.{length};
-
-// Fills s with first, first + by, first + 2 by, .. modulo 251, so that no two units are alike.
-pub fn sequence(s: &mut [u8], first: u8, by: u8)
-    requires { ⌜ first < 251 ⌝ }
-{
-    let mut value = first as u32;
-    let mut i: usize = 0;
-    while i < s.len() {
-        s[i] = (value % 256) as u8;
-        value = (value + by as u32) % 251;
-        i += 1;
-    }
-}
 
 // Room for the drive with 256-bit keys: 2,056 sectors before the payload, and 8 units.
 pub fn image_256() -> [u8; 1056768]

@@ -7,17 +7,7 @@ mod openings;
 mod payloads;
 mod report;
 
-// Fills the image from the file, which has exactly as many bytes.
-fn load(image: &mut [u8], drive: &[u8], name: &[u8]) {
-    let fd = os::open_read(name);
-    let mut more = [0u8; 1];
-    let n = io::read_full(fd, image);
-    let rest = io::read_full(fd, &mut more);
-    libc::close(fd);
-    report::line(drive, b"is read whole", n == image.len() && rest == 0);
-}
-
-fn as_it_is(image: &[u8], drive: &[u8], key: &[u8], wrong: &[u8]) {
+fn as_it_is(image: &[u8], drive: u64, key: &[u8], wrong: &[u8]) {
     openings::filled_slots(drive, image, key);
     openings::wrong_passphrases(drive, image);
     openings::wrong_slots(drive, image);
@@ -26,26 +16,26 @@ fn as_it_is(image: &[u8], drive: &[u8], key: &[u8], wrong: &[u8]) {
     payloads::refusals(drive, image, key, wrong);
 }
 
-fn damaged(image: &mut [u8], drive: &[u8]) {
+fn damaged(image: &mut [u8], drive: u64) {
     damage::start_of_header(image, drive);
     damage::names(image, drive);
     damage::numbers(image, drive);
 }
 
-fn damaged_further(image: &mut [u8], drive: &[u8]) {
+fn damaged_further(image: &mut [u8], drive: u64) {
     damage::records(image, drive);
     damage::areas(image, drive);
     damage::lengths(image, drive);
 }
 
-fn changed(image: &mut [u8], drive: &[u8], key: &[u8], wrong: &[u8], filler: &[u8], random: &[u8]) {
+fn changed(image: &mut [u8], drive: u64, key: &[u8], wrong: &[u8], filler: &[u8], random: &[u8]) {
     changes::revoking_one(image, drive, filler);
     changes::after_revoking(drive, image, key, filler);
     changes::adding_one(image, drive, key, wrong, random);
     changes::after_adding(drive, image, key);
 }
 
-fn changed_further(image: &mut [u8], drive: &[u8], key: &[u8], filler: &[u8], random: &[u8]) {
+fn changed_further(image: &mut [u8], drive: u64, key: &[u8], filler: &[u8], random: &[u8]) {
     changes::leaving_one(image, drive, filler);
     changes::after_leaving(drive, image, key);
     changes::changing_one(image, drive, filler, random);
@@ -53,14 +43,14 @@ fn changed_further(image: &mut [u8], drive: &[u8], key: &[u8], filler: &[u8], ra
 }
 
 // The payload is as it was before the changes.
-fn written(image: &mut [u8], drive: &[u8], key: &[u8]) {
+fn written(image: &mut [u8], drive: u64, key: &[u8]) {
     payloads::whole(drive, image, key);
     payloads::writes(image, drive, key);
     payloads::whole(drive, image, key);
 }
 
 // What is tried of a drive. The volume key is the bytes 0, 1, 2, ..; the wrong key is as long.
-fn tried(image: &mut [u8], drive: &[u8], key: &[u8], wrong: &[u8], filler: &[u8], random: &[u8]) {
+fn tried(image: &mut [u8], drive: u64, key: &[u8], wrong: &[u8], filler: &[u8], random: &[u8]) {
     as_it_is(image, drive, key, wrong);
     damaged(image, drive);
     damaged_further(image, drive);
@@ -69,12 +59,28 @@ fn tried(image: &mut [u8], drive: &[u8], key: &[u8], wrong: &[u8], filler: &[u8]
     written(image, drive, key);
 }
 
-// Fills the key, the wrong key, the filler and the random stripes.
+// Fills the key, the wrong key, the filler and the random stripes; modulo 251 no two units are alike.
 fn fill(key: &mut [u8], wrong: &mut [u8], filler: &mut [u8], random: &mut [u8]) {
-    made::sequence(key, 0, 1);
-    made::sequence(wrong, 1, 1);
-    made::sequence(filler, 5, 11);
-    made::sequence(random, 3, 13);
+    testing::sequence(key, 0, 1, 251);
+    testing::sequence(wrong, 1, 1, 251);
+    testing::sequence(filler, 5, 11, 251);
+    testing::sequence(random, 3, 13, 251);
+}
+
+// The drive in the file, which has exactly as many bytes as the image, with room for the rest.
+fn drive(
+    image: &mut [u8],
+    key: &mut [u8],
+    wrong: &mut [u8],
+    filler: &mut [u8],
+    random: &mut [u8],
+    bits: u64,
+    file: &[u8],
+) {
+    let n = testing::load(image, file);
+    report::line(bits, b"is read whole", n == image.len());
+    fill(key, wrong, filler, random);
+    tried(image, bits, key, wrong, filler, random);
 }
 
 fn drive_256() {
@@ -83,9 +89,15 @@ fn drive_256() {
     let mut wrong = [0u8; 32];
     let mut filler = made::filler_256();
     let mut random = made::random_256();
-    load(&mut image, b"256-bit drive", b"luks1-256.img");
-    fill(&mut key, &mut wrong, &mut filler, &mut random);
-    tried(&mut image, b"256-bit drive", &key, &wrong, &filler, &random);
+    drive(
+        &mut image,
+        &mut key,
+        &mut wrong,
+        &mut filler,
+        &mut random,
+        256,
+        b"luks1-256.img",
+    );
 }
 
 fn drive_512() {
@@ -94,9 +106,15 @@ fn drive_512() {
     let mut wrong = [0u8; 64];
     let mut filler = made::filler_512();
     let mut random = made::random_512();
-    load(&mut image, b"512-bit drive", b"luks1-512.img");
-    fill(&mut key, &mut wrong, &mut filler, &mut random);
-    tried(&mut image, b"512-bit drive", &key, &wrong, &filler, &random);
+    drive(
+        &mut image,
+        &mut key,
+        &mut wrong,
+        &mut filler,
+        &mut random,
+        512,
+        b"luks1-512.img",
+    );
 }
 
 fn main() {

@@ -33,18 +33,18 @@ fn refuses(o: Opened, number: u8) -> bool {
     header::number_of(r) == number && o.slot == 0 && o.key_length == 0 && same
 }
 
-fn opens_by_number(drive: &[u8], image: &[u8], slot: u8, passphrase: &[u8], key: &[u8]) {
+fn opens_by_number(drive: u64, image: &[u8], slot: u8, passphrase: &[u8], key: &[u8]) {
     let o = opening::open_slot(image, slot, passphrase);
     report::slot_line(drive, slot, b"opens by number", gives(o, slot, key));
 }
 
-fn opens_by_search(drive: &[u8], image: &[u8], slot: u8, passphrase: &[u8], key: &[u8]) {
+fn opens_by_search(drive: u64, image: &[u8], slot: u8, passphrase: &[u8], key: &[u8]) {
     let o = opening::open(image, passphrase);
     report::slot_line(drive, slot, b"opens by search", gives(o, slot, key));
 }
 
 pub fn refused_by_number(
-    drive: &[u8],
+    drive: u64,
     what: &[u8],
     image: &[u8],
     slot: u8,
@@ -55,19 +55,19 @@ pub fn refused_by_number(
     report::slot_line(drive, slot, what, refuses(o, number));
 }
 
-pub fn refused_by_search(drive: &[u8], what: &[u8], image: &[u8], passphrase: &[u8], number: u8) {
+pub fn refused_by_search(drive: u64, what: &[u8], image: &[u8], passphrase: &[u8], number: u8) {
     let o = opening::open(image, passphrase);
     report::line(drive, what, refuses(o, number));
 }
 
 // By number and by search.
-pub fn opens(drive: &[u8], image: &[u8], slot: u8, passphrase: &[u8], key: &[u8]) {
+pub fn opens(drive: u64, image: &[u8], slot: u8, passphrase: &[u8], key: &[u8]) {
     opens_by_number(drive, image, slot, passphrase, key);
     opens_by_search(drive, image, slot, passphrase, key);
 }
 
 // The slots that cryptsetup filled. The passphrase of slot 4 is longer than a block of SHA-1.
-pub fn filled_slots(drive: &[u8], image: &[u8], key: &[u8]) {
+pub fn filled_slots(drive: u64, image: &[u8], key: &[u8]) {
     let long =
         b"a fourth passphrase, which is longer than the sixty-four bytes of a block of SHA-1";
     opens(drive, image, 1, b"first passphrase", key);
@@ -76,7 +76,7 @@ pub fn filled_slots(drive: &[u8], image: &[u8], key: &[u8]) {
     opens(drive, image, 8, b"8", key);
 }
 
-pub fn wrong_passphrases(drive: &[u8], image: &[u8]) {
+pub fn wrong_passphrases(drive: u64, image: &[u8]) {
     let long = [b'8'; 513];
     refused_by_number(
         drive,
@@ -119,7 +119,7 @@ pub fn wrong_passphrases(drive: &[u8], image: &[u8]) {
     );
 }
 
-pub fn wrong_slots(drive: &[u8], image: &[u8]) {
+pub fn wrong_slots(drive: u64, image: &[u8]) {
     refused_by_number(drive, b"is free (15)", image, 3, b"first passphrase", 15);
     refused_by_number(drive, b"is no slot (13)", image, 0, b"first passphrase", 13);
     refused_by_number(drive, b"is no slot (13)", image, 9, b"first passphrase", 13);

@@ -1,30 +1,26 @@
 // The payload that qemu-img wrote: its plaintext is known, byte i is 7 i modulo 251.
-use crate::made;
 use crate::report;
 use header::PayloadUnit;
-ghost use Prim.Native.Nat.{_<_};
 
 // Units read into the buffer; their plaintext begins with the byte start.
 fn reads(
     buffer: &mut [u8],
     expected: &mut [u8],
-    drive: &[u8],
+    drive: u64,
     what: &[u8],
     image: &[u8],
     key: &[u8],
     first: u64,
     units: u64,
     start: u8,
-)
-    requires { ⌜ start < 251 ⌝ }
-{
-    made::sequence(expected, start, 7);
+) {
+    testing::sequence(expected, start, 7, 251);
     let r = payload::read(image, key, PayloadUnit(first), PayloadUnit(units), buffer);
     let same = octets::equal(buffer, expected);
     report::line(drive, what, header::number_of(r) == 0 && same);
 }
 
-pub fn whole(drive: &[u8], image: &[u8], key: &[u8]) {
+pub fn whole(drive: u64, image: &[u8], key: &[u8]) {
     let mut buffer = [0u8; 4096];
     let mut expected = [0u8; 4096];
     reads(
@@ -40,7 +36,7 @@ pub fn whole(drive: &[u8], image: &[u8], key: &[u8]) {
     );
 }
 
-pub fn parts(drive: &[u8], image: &[u8], key: &[u8]) {
+pub fn parts(drive: u64, image: &[u8], key: &[u8]) {
     let mut buffer = [0u8; 1024];
     let mut expected = [0u8; 1024];
     reads(
@@ -70,15 +66,7 @@ pub fn parts(drive: &[u8], image: &[u8], key: &[u8]) {
 }
 
 // A read of units into a buffer of 512 ones that is refused with this number, and leaves the buffer as it was.
-fn refused(
-    drive: &[u8],
-    what: &[u8],
-    image: &[u8],
-    key: &[u8],
-    first: u64,
-    units: u64,
-    number: u8,
-) {
+fn refused(drive: u64, what: &[u8], image: &[u8], key: &[u8], first: u64, units: u64, number: u8) {
     let ones = [1u8; 512];
     let mut buffer = [1u8; 512];
     let r = payload::read(
@@ -93,7 +81,7 @@ fn refused(
 }
 
 // The wrong key has the volume key's length.
-pub fn refusals(drive: &[u8], image: &[u8], key: &[u8], wrong: &[u8]) {
+pub fn refusals(drive: u64, image: &[u8], key: &[u8], wrong: &[u8]) {
     refused(
         drive,
         b"a read under a short key (9)",
@@ -132,43 +120,32 @@ pub fn refusals(drive: &[u8], image: &[u8], key: &[u8], wrong: &[u8]) {
     );
 }
 
-// Unit 5 written and read back; then its old plaintext is written again, and the image is as it was there.
-pub fn writes(image: &mut [u8], drive: &[u8], key: &[u8]) {
-    let mut old = [0u8; 512];
-    let new = [0x5Au8; 512];
+// The numbers of a read and of a write of unit 5.
+fn read_unit(buffer: &mut [u8], image: &[u8], key: &[u8]) -> u8 {
+    header::number_of(payload::read(image, key, PayloadUnit(5), PayloadUnit(1), buffer))
+}
+
+fn write_unit(image: &mut [u8], key: &[u8], plaintext: &[u8]) -> u8 {
+    header::number_of(payload::write(image, key, PayloadUnit(5), PayloadUnit(1), plaintext))
+}
+
+// Is the plaintext written to unit 5, and read back?
+fn holds(image: &mut [u8], key: &[u8], plaintext: &[u8]) -> bool {
     let mut back = [0u8; 512];
-    let read = header::number_of(payload::read(
-        image,
-        key,
-        PayloadUnit(5),
-        PayloadUnit(1),
-        &mut old,
-    ));
-    let written = header::number_of(payload::write(
-        image,
-        key,
-        PayloadUnit(5),
-        PayloadUnit(1),
-        &new,
-    ));
-    let again = header::number_of(payload::read(
-        image,
-        key,
-        PayloadUnit(5),
-        PayloadUnit(1),
-        &mut back,
-    ));
-    let restored = header::number_of(payload::write(
-        image,
-        key,
-        PayloadUnit(5),
-        PayloadUnit(1),
-        &old,
-    ));
-    let same = octets::equal(&back, &new);
+    let written = write_unit(image, key, plaintext);
+    let read = read_unit(&mut back, image, key);
+    written == 0 && read == 0 && octets::equal(&back, plaintext)
+}
+
+// Unit 5 written and read back; then its old plaintext is written again, and the image is as it was there.
+pub fn writes(image: &mut [u8], drive: u64, key: &[u8]) {
+    let mut old = [0u8; 512];
+    let read = read_unit(&mut old, image, key);
+    let written = holds(image, key, &[0x5A; 512]);
+    let restored = holds(image, key, &old);
     report::line(
         drive,
         b"payload unit 5 written, read back, and restored",
-        read == 0 && written == 0 && again == 0 && restored == 0 && same,
+        read == 0 && written && restored,
     );
 }

@@ -16,20 +16,20 @@ use Rattle.ledger.specs.Demand3.{FormatTyped, SlotTyped, Typed, AllTyped}
 -- ---- the tests
 
 -- each element is a byte
-abbrev pub areBytes : List ℕ → Bool
+abbrev areBytes : List ℕ → Bool
 areBytes [] = true
 areBytes (x ∷ xs) = ltb x 256 && areBytes xs
 
 -- format's arguments
-abbrev pub formatTyped : FormatInput → Bool
+abbrev formatTyped : FormatInput → Bool
 formatTyped a = eqb (length (a .salt)) 32 && ltb (a .count) (2 ^ 32)
 
 -- those that make a slot live
-abbrev pub slotTyped : SlotInput → Bool
+abbrev slotTyped : SlotInput → Bool
 slotTyped x = eqb (length (x .salt)) 32 && (ltb (x .count) (2 ^ 32) && areBytes (x .random))
 
 -- a call's
-abbrev pub callTyped : Call → Bool
+abbrev callTyped : Call → Bool
 callTyped (add k key x) = areBytes key && slotTyped x
 callTyped (change k passphrase to x filler) = slotTyped x
 callTyped (revoke k filler) = true
@@ -39,13 +39,13 @@ callTyped (read key u n buffer) = true
 callTyped (write key u n buffer) = areBytes key && areBytes buffer
 
 -- each call's
-abbrev pub callsTyped : List Call → Bool
+abbrev callsTyped : List Call → Bool
 callsTyped [] = true
 callsTyped (c ∷ cs) = callTyped c && callsTyped cs
 
 -- ---- what they show
 
-pub are-bytes : (x : List ℕ) → areBytes x ≡ true → Bytes x
+are-bytes : (x : List ℕ) → areBytes x ≡ true → Bytes x
 are-bytes [] h = tt
 are-bytes (a ∷ x) h =
     let q = and-split (ltb a 256) (areBytes x) h in

@@ -23,7 +23,7 @@ use Rattle.profiles.specs.declared.Profile.{Profile}
 -- ---- parts of given widths
 
 -- l with the parts written one behind another, from index o
-abbrev pub inOrder : List ℕ → ℕ → List (List ℕ) → List ℕ → List ℕ
+abbrev inOrder : List ℕ → ℕ → List (List ℕ) → List ℕ → List ℕ
 inOrder l o [] ws = l
 inOrder l o (p ∷ ps) [] = l
 inOrder l o (p ∷ ps) (w ∷ ws) = inOrder (splice l o p) (o + w) ps ws

@@ -1,6 +1,6 @@
 // Format: the checks in order, then everything before the payload cleared and the header written.
-pub mod checks;
-pub mod fields;
+mod checks;
+mod fields;
 
 use header::Refusal;
 ghost use mathlib.Core.Path.{_≡_};

@@ -1,12 +1,12 @@
--- The substitution and its inverse give bytes, and undo each other: each way by one test over all 256 bytes.
-use mathlib.Core.Path.{_≡_}
+-- The substitution and its inverse give bytes, and the inverse undoes the substitution: one test over all 256 bytes.
+use mathlib.Core.Path.{_≡_, ap, _∙_}
 use Prim.Native.Nat.{ℕ, zero, suc, _+_, _/_, _%_, _<_}
 use native.Mathlib.Nat.{mod-lt, zero-lt-suc}
 use native.Mathlib.Omega.{arith}
-use Rattle.octets.specs.Octets.{_⊕_}
 use Rattle.octets.proofs.TableLaws.{same-below}
 use Rattle.gf256.proofs.FieldLaws.{mul-byte}
-use Rattle.gf256.specs.Field.{xtime, times, mul, factor, power, inverse, bit, ofBits, affine, invAffine, sub, invSub}
+use Rattle.gf256.proofs.InverseLaws.{inverses, listed, inverse-is}
+use Rattle.gf256.specs.Field.{mul, factor, power, inverse, bit, ofBits, affine, invAffine, sub, invSub}
 
 -- ---- bytes go to bytes
 
@@ -42,12 +42,27 @@ pub invSub-byte : (k : ℕ) → invSub k < 256
 unfolding inverse invSub
 invSub-byte k = power-byte 8 254 (invAffine k) (invAffine-byte k)
 
--- ---- the one undoes the other
+-- ---- both by the list of inverses
+
+abbrev pub subListed : ℕ → ℕ
+subListed k = affine (listed k)
+
+abbrev pub invSubListed : ℕ → ℕ
+invSubListed k = listed (invAffine k)
+
+pub sub-is : (k : ℕ) → k < 256 → sub k ≡ subListed k
+unfolding sub
+sub-is k h = ap affine (inverse-is k h)
+
+pub invSub-is : (k : ℕ) → invSub k ≡ invSubListed k
+unfolding invSub
+invSub-is k = inverse-is (invAffine k) (invAffine-byte k)
+
+-- ---- the inverse undoes it
+
+undone : (k : ℕ) → k < 256 → invSubListed (subListed k) ≡ k
+unfolding inverses bit ofBits affine invAffine
+undone = same-below (λ k. invSubListed (subListed k)) (λ k. k) 256 tt
 
 pub sub-undo : (k : ℕ) → k < 256 → invSub (sub k) ≡ k
-unfolding _⊕_ xtime times mul factor power inverse bit ofBits affine invAffine sub invSub
-sub-undo = same-below (λ k. invSub (sub k)) (λ k. k) 256 tt
-
-pub sub-redo : (k : ℕ) → k < 256 → sub (invSub k) ≡ k
-unfolding _⊕_ xtime times mul factor power inverse bit ofBits affine invAffine sub invSub
-sub-redo = same-below (λ k. sub (invSub k)) (λ k. k) 256 tt
+sub-undo k h = ap invSub (sub-is k h) ∙ invSub-is (subListed k) ∙ undone k h

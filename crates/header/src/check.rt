@@ -1,5 +1,8 @@
 // The header check.
 use crate::Refusal;
+use crate::offsets::CIPHER;
+use crate::offsets::MAGIC;
+use crate::offsets::VERSION;
 ghost use mathlib.Core.Path.{_≡_};
 ghost use Prim.Native.Nat.{_+_, _≤_, _<_};
 ghost use lib.ListN.{length, drop};
@@ -113,10 +116,10 @@ pub fn header_check(image: &[u8]) -> Refusal
     if !size_ok(image) {
         return Refusal::ImageSize;
     }
-    if !octets::equal(&image[0..6], b"LUKS\xba\xbe") {
+    if !octets::equal(&image[MAGIC..VERSION], b"LUKS\xba\xbe") {
         return Refusal::Magic;
     }
-    if !octets::equal(&image[6..8], b"\x00\x01") {
+    if !octets::equal(&image[VERSION..CIPHER], b"\x00\x01") {
         return Refusal::Version;
     }
     if crate::facts::profile_in(image) == 0 {

@@ -47,14 +47,14 @@ pub fn record_ok(s: Slot) -> bool
 }
 
 // Where the slot's area begins, in bytes of the image.
-pub fn area_begin(s: Slot) -> u64
+fn area_begin(s: Slot) -> u64
     ensures { λ r. ⌜ r ≡ s .start .0 * 512 ⌝ }
 {
     s.start.0 as u64 * 512
 }
 
 // Where the slot's area of n × L bytes ends, in bytes of the image.
-pub fn area_end(s: Slot, key_bytes: u32) -> u64
+fn area_end(s: Slot, key_bytes: u32) -> u64
     requires { ⌜ «key_bytes» ≤ 64 ⌝ }
     ensures { λ r. ⌜ r ≡ s .start .0 * 512 + s .stripes * «key_bytes» ⌝ }
 {

@@ -33,10 +33,10 @@ module _ (H : Digest) (L : LawfulDigest H) (k : List ℕ) where
   length-keyBlock-by (no n) =
       ap length (keyBlock-long H k (omega arith)) ∙ length-padded (H .block) (H .hash k) (omega (arith, L .str-hash k .len, L .fits))
 
-  pub length-keyBlock : length (keyBlock H k) ≡ H .block
+  length-keyBlock : length (keyBlock H k) ≡ H .block
   length-keyBlock = length-keyBlock-by (decLe (length k) (H .block))
 
-  pub length-xorPad : (p : ℕ) → length (xorPad H p k) ≡ H .block
+  length-xorPad : (p : ℕ) → length (xorPad H p k) ≡ H .block
   unfolding xorPad
   length-xorPad p = length-xors (keyBlock H k) _ ∙ length-keyBlock
 

@@ -62,11 +62,11 @@ fn finish_keyed(s: [u32; 5], m: &[u8]) -> [u8; 20]
     requires { ⌜ 64 + length (now m) < 2 ^ 61 ⌝ }
     ensures { λ r. ⌜ r ≡ finishKeyed s (now (m .entry)) ⌝ }
 {
-    sha1::store(sha1::finish_words(s, 64, m))
+    sha1::store(sha1::finish_words(s, 64, m, b""))
 }
 
 // The HMAC of m under a prepared key.
-pub fn hmac_with(k: Keyed, m: &[u8]) -> [u8; 20]
+fn hmac_with(k: Keyed, m: &[u8]) -> [u8; 20]
     requires { ⌜ 64 + length (now m) < 2 ^ 61 ⌝ }
     ensures { λ r. ⌜ r ≡ finishKeyed (k .outer) (finishKeyed (k .inner) (now (m .entry))) ⌝ }
 {

@@ -20,7 +20,7 @@ use Rattle.rules.specs.Facts.{slotInput}
 
 -- ---- the front of a buffer that was lent to a call, y, and the slot key in it
 
-pub front-is : (n : ℕ) (y r q : List ℕ) → length y ≡ n → y ≡ q → take n (y ++ r) ≡ q
+front-is : (n : ℕ) (y r q : List ℕ) → length y ≡ n → y ≡ q → take n (y ++ r) ≡ q
 front-is n y r q l e = take-at y r n l ∙ e
 
 pub slot-key-is : (passphrase salt : List ℕ) (count n : ℕ) (x y r : List ℕ) → length x ≡ n → length y ≡ n → y ≡ pbkdf2 sha1 passphrase salt count (length x)

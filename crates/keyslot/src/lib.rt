@@ -35,7 +35,8 @@ pub fn fill(
     random: &[u8],
     n: usize,
 )
-    requires { ⌜ (1 ≤ n) × (n * length (now key) ≡ length (now area)) × (length (now random) ≡ (n - 1) * length (now key)) × (32 ≤ length (now key)) × (length (now key) ≤ 64)
+    requires { ⌜ (1 ≤ n) × (n * length (now key) ≡ length (now area)) × (length (now random) ≡ (n - 1) * length (now key))
+        × (32 ≤ length (now key)) × (length (now key) ≤ 64)
         × (length (now key) % 32 ≡ 0) × (1 ≤ count) × (length (now passphrase) < 2 ^ 61) × (length (now salt) < 2 ^ 60) ⌝ }
     ensures { λ _. ⌜ now (area .exit) ≡ keyMaterial aesXtsSha1 (length (now (key .entry))) n (now (key .entry))
         (slotInput (now (passphrase .entry)) (now (salt .entry)) count (now (random .entry))) ⌝ }
@@ -48,7 +49,8 @@ pub fn fill(
 
 // The data units of a group, numbered from u, deciphered into b under the sliced key schedules ks of the blocks and vs of the tweaks.
 fn decipher(b: &mut [u8], group: &[u8], u: u64, ks: &[u32], vs: &[u32], n: usize)
-    requires { ⌜ (length (now b) ≡ length (now group)) × (length (now group) % 16 ≡ 0) × (u + length (now group) < 2 ^ 64) × ((n + 2) * 128 ≤ length (now ks)) × ((n + 2) * 128 ≤ length (now vs)) ⌝ }
+    requires { ⌜ (length (now b) ≡ length (now group)) × (length (now group) % 16 ≡ 0) × (u + length (now group) < 2 ^ 64)
+        × ((n + 2) * 128 ≤ length (now ks)) × ((n + 2) * 128 ≤ length (now vs)) ⌝ }
     ensures { λ _. ⌜ ((f : ℕ → List ℕ → List ℕ) → Under false n (now (ks .entry)) (now (vs .entry)) f → now (b .exit) ≡ inUnits f u (now (group .entry))) ⌝ }
 {
     octets::copy_into(b, 0, group);
@@ -131,7 +133,8 @@ fn merge_groups(d: &mut [u8], area: &[u8], n: usize, ks: &[u32], vs: &[u32], rou
 // The merged decryption of an area under an expanded key, whose schedule of the blocks is sliced in ks. (A function that slices both
 // schedules would hold a third on the stack.)
 fn merge_sliced(d: &mut [u8], area: &[u8], n: usize, ks: &[u32], keys: Keys)
-    requires { ⌜ (1 ≤ n) × (n * length (now d) ≡ length (now area)) × (32 ≤ length (now d)) × (length (now d) ≤ 64) × (length (now d) % 32 ≡ 0) × (length (now ks) ≡ 1920) × Ready keys ⌝ }
+    requires { ⌜ (1 ≤ n) × (n * length (now d) ≡ length (now area)) × (32 ≤ length (now d)) × (length (now d) ≤ 64) × (length (now d) % 32 ≡ 0)
+        × (length (now ks) ≡ 1920) × Ready keys ⌝ }
     ensures { λ _. ⌜ (Sliced (keys .rounds + 2) (keys .blocks) (now (ks .entry))
         → now (d .exit) ≡ merge (diffuse sha1) (length (now (d .entry))) n (inUnits (unitDecrypt keys) 0 (now (area .entry)))) ⌝ }
 {
@@ -156,7 +159,8 @@ fn merge_units(d: &mut [u8], area: &[u8], n: usize, keys: Keys)
 pub fn candidate(d: &mut [u8], area: &[u8], n: usize, passphrase: &[u8], salt: &[u8], count: u32)
     requires { ⌜ (1 ≤ n) × (n * length (now d) ≡ length (now area)) × (32 ≤ length (now d)) × (length (now d) ≤ 64) × (length (now d) % 32 ≡ 0) × (1 ≤ count)
         × (length (now passphrase) < 2 ^ 61) × (length (now salt) < 2 ^ 60) ⌝ }
-    ensures { λ _. ⌜ now (d .exit) ≡ candidateOf aesXtsSha1 (length (now (d .entry))) n (now (passphrase .entry)) (now (salt .entry)) count (now (area .entry)) ⌝ }
+    ensures { λ _. ⌜ now (d .exit)
+        ≡ candidateOf aesXtsSha1 (length (now (d .entry))) n (now (passphrase .entry)) (now (salt .entry)) count (now (area .entry)) ⌝ }
 {
     let l = d.len();
     let k = slot_key(passphrase, salt, count, l);

@@ -58,7 +58,7 @@ sum-halves x e c w a u r h eu er =
 pub lane-at : (w : List (List ℕ)) (i t : ℕ) → getD (lane i w) t 0 ≡ getD (getD w t []) i 0
 lane-at w i t = List·getD-map (λ (x : List ℕ). getD x i 0) w t []
 
-pub lane-set : (w : List (List ℕ)) (i t : ℕ) (x : List ℕ) → lane i (set w t x) ≡ set (lane i w) t (getD x i 0)
+lane-set : (w : List (List ℕ)) (i t : ℕ) (x : List ℕ) → lane i (set w t x) ≡ set (lane i w) t (getD x i 0)
 lane-set [] i t x = refl
 lane-set (y ∷ w) i zero x = refl
 lane-set (y ∷ w) i (suc t) x = ap (λ (z : List ℕ). getD y i 0 ∷ z) (lane-set w i t x)

@@ -223,7 +223,8 @@ fn taps_at(w: &[[u32; 4]; 96], t: usize) -> [u32; 4]
 // The rounds 20 q to 20 q + 19. The schedule runs 16 words ahead, as in sha1.
 fn twenty(w: &mut [[u32; 4]; 96], s: [[u32; 4]; 5], q: usize) -> [[u32; 4]; 5]
     requires { ⌜ q < 4 ⌝ }
-    ensures { λ r. ⌜ (length (now (w .exit)) ≡ length (now (w .entry))) × Each (λ i. (lane i (now (w .exit)), lane i r) ≡ turns (lane i (now (w .entry)), lane i s) (20 * q) 20) ⌝ }
+    ensures { λ r. ⌜ (length (now (w .exit)) ≡ length (now (w .entry)))
+        × Each (λ i. (lane i (now (w .exit)), lane i r) ≡ turns (lane i (now (w .entry)), lane i s) (20 * q) 20) ⌝ }
 {
     let zero = [0u32; 4];
     let c = sha1::round_constant(q);

@@ -96,7 +96,7 @@ unfolding slotRecord recordFields recordHead flatten
 record-fields n L state count salt k = simp (append-assoc, append-nil)
 
 -- their widths: 48 bytes
-abbrev pub recordWidths : List ℕ
+abbrev recordWidths : List ℕ
 recordWidths = 4 ∷ 4 ∷ 32 ∷ 4 ∷ 4 ∷ []
 
 pub record-field : (n L state count : ℕ) (salt : List ℕ) (k : ℕ) → length salt ≡ 32 → (i : ℕ) → i < 5

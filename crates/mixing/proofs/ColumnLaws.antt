@@ -125,7 +125,7 @@ module _ (c : ℕ) (h : c < 4) (q y : List ℕ) where
       let e : b ≡ bitRows (7 - m) (elems at4 c 0 32 q) = not-stored p m i b r l hm ei (t .read) d in
       (e, more-stored p k (f b) r s (omega arith) ek (ap f e ∙ ef) (t .put) d)
 
-  pub all-stored : (r : List ℕ) → Stored 8 r → y ≡ bits y → elems at4 c 0 32 r ≡ y
+  all-stored : (r : List ℕ) → Stored 8 r → y ≡ bits y → elems at4 c 0 32 r ≡ y
   all-stored r d e = same-bits (elems at4 c 0 32 r) y new ∙ sym e
     where
       new : (n : ℕ) → n < 8 → bitRows n (elems at4 c 0 32 r) ≡ bitRows n y
@@ -133,7 +133,7 @@ module _ (c : ℕ) (h : c < 4) (q y : List ℕ) where
           let m : 7 - (7 - n) ≡ n = omega arith in
           sym (rows-bit c n (start c (7 - n)) r b (start-own c (7 - n) h (omega arith) ∙ ap (λ (v : ℕ). c + 16 * v) m)) ∙ d .new (7 - n) (omega arith) ∙ ap (λ (v : ℕ). bitRows v y) m
 
-  pub others-kept : (r : List ℕ) (p : ℕ) → p ≤ 8 → Stored p r → (d : ℕ) → d < 4 → d ≢ c → elems at4 d 0 32 r ≡ elems at4 d 0 32 q
+  others-kept : (r : List ℕ) (p : ℕ) → p ≤ 8 → Stored p r → (d : ℕ) → d < 4 → d ≢ c → elems at4 d 0 32 r ≡ elems at4 d 0 32 q
   others-kept r p hp s d hd o = same-bits (elems at4 d 0 32 r) (elems at4 d 0 32 q) old
     where
       old : (n : ℕ) → n < 8 → bitRows n (elems at4 d 0 32 r) ≡ bitRows n (elems at4 d 0 32 q)

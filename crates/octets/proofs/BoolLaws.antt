@@ -1,8 +1,16 @@
 -- Laws of tests: how code's early returns meet a conjunction or a disjunction.
-use mathlib.Core.Path.{_≡_, refl}
+use mathlib.Core.Path.{_≡_, refl, sym, _∙_}
 use mathlib.Core.Bool.{Bool, true, false, _&&_, _||_, not}
 use Prim.Native.Nat.{ℕ}
 use native.Mathlib.Omega.{arith}
+use borrow.Author.Tests.{not-true, not-false}
+
+-- a test b that a function returned as r: it holds where the code goes on behind `!r`, and fails where the code returns
+pub holds : {r b : Bool} → r ≡ b → not r ≡ false → b ≡ true
+holds {r} e n = sym e ∙ not-false r n
+
+pub fails : {r b : Bool} → r ≡ b → not r ≡ true → b ≡ false
+fails {r} e n = sym e ∙ not-true r n
 
 pub and-no : (a b : Bool) → a ≡ false → false ≡ (a && b)
 and-no a b e = rw e

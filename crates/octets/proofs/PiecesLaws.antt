@@ -105,10 +105,10 @@ other-pieces : (D n : ℕ) (x : List ℕ) → Str n x → Str (n - D) (drop D x)
 other-pieces D n x h = record { len = length-drop D x ∙ omega (arith, h .len); byte = bytes-drop D x (h .byte) }
 
 -- f keeps the length of a piece; g undoes f on a piece
-abbrev pub Keeps : ℕ → (ℕ → Type 0) → (ℕ → List ℕ → List ℕ) → Type 0
+abbrev Keeps : ℕ → (ℕ → Type 0) → (ℕ → List ℕ → List ℕ) → Type 0
 Keeps D P f = (u n : ℕ) (x : List ℕ) → n ≤ D → P n → Str n x → Str n (f u x)
 
-abbrev pub Undoes : ℕ → (ℕ → Type 0) → (ℕ → List ℕ → List ℕ) → (ℕ → List ℕ → List ℕ) → Type 0
+abbrev Undoes : ℕ → (ℕ → Type 0) → (ℕ → List ℕ → List ℕ) → (ℕ → List ℕ → List ℕ) → Type 0
 Undoes D P g f = (u n : ℕ) (x : List ℕ) → n ≤ D → P n → Str n x → g u (f u x) ≡ x
 
 -- P holds of the length of the first piece and of the rest

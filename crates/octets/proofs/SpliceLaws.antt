@@ -6,8 +6,9 @@ use native.Mathlib.Nat.{zero-add}
 use native.Mathlib.Omega.{arith}
 use lib.ListN.{getD, length, take, drop, length-append, length-take, length-drop, take-append-drop}
 use lib.Seq.{getD-take, getD-drop, take-append-le, drop-append-le, take-at, drop-at, drop-drop, length-take-le, take-take, take-all, drop-length, take-append-add, drop-append-add, paste, take-length}
-use Rattle.octets.specs.Octets.{be32At}
+use Rattle.octets.specs.Octets.{zeros, padded, be32At}
 use Rattle.octets.specs.Splice.{part, splice}
+use Rattle.octets.proofs.OctetsLaws.{drop-zeros}
 
 module _ {ℓ} {A : Type ℓ} where
   pub length-part : (l : List A) (o n : ℕ) → o + n ≤ length l → length (part l o n) ≡ n
@@ -160,3 +161,8 @@ be32At-part s a w o h =
     let g : (i : ℕ) → i < w → getD (take w (drop a s)) i 0 ≡ getD s (a + i) 0 = λ i l. getD-take w (drop a s) i 0 l ∙ getD-drop a s i 0 in
     let e : (k : ℕ) → a + (o + k) ≡ a + o + k = λ k. omega arith in
     rw (g o (omega arith), g (o + 1) (omega arith), g (o + 2) (omega arith), g (o + 3) (omega arith), e 1, e 2, e 3)
+
+-- t laid at the front of zeros
+pub splice-zeros : (n : ℕ) (t : List ℕ) → length t ≤ n → splice (zeros n) 0 t ≡ padded n t
+unfolding splice
+splice-zeros n t h = rw (zero-add (length t), drop-zeros (length t) n)

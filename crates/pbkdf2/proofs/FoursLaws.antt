@@ -20,7 +20,7 @@ use Rattle.pbkdf2.proofs.WordsLaws.{F-blockWords}
 -- ---- the last block
 
 -- the words that are stored
-abbrev pub lastWords : List (List ℕ) → List (List ℕ)
+abbrev lastWords : List (List ℕ) → List (List ℕ)
 lastWords u =
     getD u 0 [] ∷ getD u 1 [] ∷ getD u 2 [] ∷ getD u 3 [] ∷ getD u 4 [] ∷ four 0x80000000
     ∷ four 0 ∷ four 0 ∷ four 0 ∷ four 0 ∷ four 0 ∷ four 0 ∷ four 0 ∷ four 0 ∷ four 0 ∷ four 672 ∷ []
@@ -33,13 +33,9 @@ last-lane i w u h l =
 -- ---- blocks of the derived key
 
 module _ (i o s : List ℕ) (c j : ℕ) (t : List ℕ) where
-  abbrev bytes : ℕ → List ℕ
-  bytes n = digest (blockWords i o s c n)
-
   pub one-more : t ≡ digest (blockWords i o s c (j + 1)) → firstBlocks i o s c (j + 1) ≡ firstBlocks i o s c j ++ t
   unfolding firstBlocks
-  one-more e =
-      ap (firstBlocks i o s c) (add-one j) ∙ ap (λ (x : List ℕ). firstBlocks i o s c j ++ x) (ap bytes (sym (add-one j)) ∙ sym e)
+  one-more e = rw (e, add-one)
 
   pub four-more : t ≡ fourBlocks i o s c (j + 1) → firstBlocks i o s c (j + 4) ≡ firstBlocks i o s c j ++ t
   unfolding firstBlocks
@@ -56,7 +52,7 @@ module _ (p s i o : List ℕ) (c : ℕ) (ei : i ≡ keyed 0x36 p) (eo : o ≡ ke
   firstBlocks-Ts : (n : ℕ) → firstBlocks i o s c n ≡ Ts sha1 p s c n
   unfolding firstBlocks Ts
   firstBlocks-Ts zero = refl
-  firstBlocks-Ts (suc n) = ap₂ _++_ (firstBlocks-Ts n) (F-blockWords p s i o _ c (suc n) ei eo refl)
+  firstBlocks-Ts (suc n) = ap₂ _++_ (firstBlocks-Ts n) (F-blockWords p s i o c (suc n) ei eo)
 
   pub all-blocks : (out : List ℕ) (j : ℕ) → j ≡ pieceCount 20 (length out) → Holds i o s c j out → out ≡ pbkdf2 sha1 p s c (length out)
-  all-blocks out j ej b = Ts-end sha1 lawful p s c out j (length out) refl ej (b ∙ ap (take (length out)) (firstBlocks-Ts j))
+  all-blocks out j ej b = Ts-end sha1 lawful p s c out j ej (b ∙ ap (take (length out)) (firstBlocks-Ts j))

@@ -1,11 +1,11 @@
--- Laws of PBKDF2 over any lawful digest: lengths and bytes, and a loop that makes the derived key block by block.
-use mathlib.Core.Path.{_≡_, sym, ap, ap₂, _∙_}
+-- Laws of PBKDF2 over any lawful digest: lengths and bytes, and the loops over its iterations and over the blocks of the derived key.
+use mathlib.Core.Path.{_≡_, refl, sym, ap, ap₂, _∙_}
 use mathlib.Core.List.{List, _++_}
 use Prim.Native.Nat.{ℕ, zero, suc, _+_, _-_, _*_, _≤_, _<_, min}
 use native.Mathlib.Nat.{mul-suc, mul-add, mul-comm, lt-div-mul-add}
 use native.Mathlib.Omega.{arith}
 use lib.ListN.{length, take, length-take}
-use lib.Seq.{take-all, take-append-add, length-take-le}
+use lib.Seq.{take-all, take-append-add}
 use Rattle.octets.specs.Octets.{Str, be32, xors}
 use Rattle.octets.specs.Splice.{splice}
 use Rattle.octets.specs.Pieces.{pieceCount}
@@ -17,20 +17,23 @@ use Rattle.hmac.specs.Hmac.{hmac}
 use Rattle.hmac.proofs.HmacLaws.{str-hmac}
 use Rattle.pbkdf2.specs.Pbkdf2.{iterated, folded, F, Ts, pbkdf2}
 
--- ---- a turn of the loop over the iterations
+-- ---- the loop over the iterations
 
-module _ (f : List ℕ → List ℕ) (first u t v x : List ℕ) (k : ℕ) (h : 1 ≤ k) (eu : u ≡ iterated f first (k - 1)) (ev : v ≡ f u) where
-  pub iterated-more : v ≡ iterated f first ((k + 1) - 1)
-  unfolding iterated
-  iterated-more =
-      let n : (k + 1) - 1 ≡ suc (k - 1) = omega arith in
-      rw (n, ev, eu)
+-- of k values, each made by f from the one before, u is the last and t the exclusive or
+pub record Values (f : List ℕ → List ℕ) (first : List ℕ) (k : ℕ) (u t : List ℕ) : Type 0 where
+  pub some : 1 ≤ k
+  pub last : u ≡ iterated f first (k - 1)
+  pub sum : t ≡ folded f first (k - 1)
 
-  pub folded-more : t ≡ folded f first (k - 1) → x ≡ xors t v → x ≡ folded f first ((k + 1) - 1)
-  unfolding folded iterated
-  folded-more et ex =
-      let n : (k + 1) - 1 ≡ suc (k - 1) = omega arith in
-      rw (n, ex, et, ev, eu)
+pub one-value : (f : List ℕ → List ℕ) (first : List ℕ) → Values f first 1 first first
+unfolding iterated folded
+one-value f first = record { some = omega arith; last = refl; sum = refl }
+
+pub more-values : {f : List ℕ → List ℕ} {first u t v x : List ℕ} {k : ℕ} → Values f first k u t → v ≡ f u → x ≡ xors t v → Values f first (k + 1) v x
+unfolding iterated folded
+more-values {k = k} p ev ex =
+    let n : (k + 1) - 1 ≡ suc (k - 1) = omega arith in
+    record { some = omega arith; last = rw (n, ev, p .last); sum = rw (n, ex, p .sum, ev, p .last) }
 
 -- ---- lengths and bytes
 
@@ -43,30 +46,28 @@ str-folded D f u (suc n) hf h = str-xors (f (iterated f u n)) (str-folded D f u 
 pieceCount-covers : (D n : ℕ) → 1 ≤ D → n ≤ D * pieceCount D n
 pieceCount-covers D n h = omega (arith, lt-div-mul-add {a = n + (D - 1)} {b = D} h, mul-comm D (pieceCount D n))
 
--- a turn of a loop over blocks of D bytes: T n are the first n of them, and of the m blocks t after the first j, e bytes, all but at
--- the end, go to their place in out
-pub blocks-more : (D : ℕ) (T : ℕ → List ℕ) (out out′ t : List ℕ) (j m n e : ℕ) → length t ≡ D * m → length out ≡ n → D * j < n
-    → e ≡ min (D * m) (n - D * j) → T (j + m) ≡ T j ++ t → out′ ≡ splice out (D * j) (take e t)
-    → take (D * j) out ≡ take (length out) (T j) → take (D * (j + m)) out′ ≡ take (length out′) (T (j + m))
-blocks-more D T out out′ t j m n e lt lo h ee et eo i =
+-- a turn of a loop over blocks of D bytes: T n are the first n of them, and of the m blocks t after the first j as much as there is room
+-- for goes to its place in out
+pub blocks-more : (D : ℕ) (T : ℕ → List ℕ) (out out′ t : List ℕ) (j m : ℕ) → length t ≡ D * m → D * j < length out → T (j + m) ≡ T j ++ t
+    → out′ ≡ splice out (D * j) (take (length out - D * j) t) → take (D * j) out ≡ take (length out) (T j) → take (D * (j + m)) out′ ≡ take (length out′) (T (j + m))
+blocks-more D T out out′ t j m lt h et eo i =
     let q : ℕ = D * j in
+    let r : ℕ = length out - q in
+    let x : List ℕ = take r t in
     let a : D * (j + m) ≡ q + D * m = mul-add D j m in
+    let lx : length x ≡ min r (length t) = length-take r t in
     let lT : length (T j) ≡ q = omega (arith, ap length i, length-take q out, length-take (length out) (T j)) in
-    let le : length (take e t) ≡ e = length-take-le e t (omega arith) in
-    let lo′ : length out′ ≡ n = ap length eo ∙ length-splice out q (take e t) (omega arith) ∙ lo in
-    let b : q + e ≡ q + length (take e t) = omega arith in
-    let d : length out′ ≡ length (T j) + (n - q) = omega arith in
-    take-min (D * (j + m)) (q + e) out′ (omega arith)
-    ∙ ap₂ take b eo ∙ take-splice out q (take e t) (omega arith)
-    ∙ ap₂ _++_ (i ∙ take-all (length out) (T j) (omega arith)) (sym (take-min (n - q) e t (omega arith)))
-    ∙ sym (ap₂ take d et ∙ take-append-add (T j) t (n - q))
+    let lo : length out′ ≡ length out = ap length eo ∙ length-splice out q x (omega arith) in
+    let d : length out′ ≡ length (T j) + r = omega arith in
+    take-min (D * (j + m)) (q + length x) out′ (omega arith) ∙ ap (take (q + length x)) eo ∙ take-splice out q x (omega arith)
+    ∙ ap (λ (y : List ℕ). y ++ x) (i ∙ take-all (length out) (T j) (omega arith)) ∙ sym (ap₂ take d et ∙ take-append-add (T j) t r)
 
 module _ (H : Digest) (L : LawfulDigest H) (p s : List ℕ) (c : ℕ) where
-  pub str-F : (i : ℕ) → Str (H .size) (F H p s c i)
+  str-F : (i : ℕ) → Str (H .size) (F H p s c i)
   unfolding F
   str-F i = str-folded (H .size) (hmac H p) (hmac H p (s ++ be32 i)) (c - 1) (str-hmac H L p) (str-hmac H L p (s ++ be32 i))
 
-  pub str-Ts : (n : ℕ) → Str (H .size * n) (Ts H p s c n)
+  str-Ts : (n : ℕ) → Str (H .size * n) (Ts H p s c n)
   unfolding Ts
   str-Ts zero = record { len = omega arith; byte = tt }
   str-Ts (suc n) = str-cast (sym (mul-suc (H .size) n)) (str-append (str-Ts n) (str-F (suc n)))
@@ -75,9 +76,10 @@ module _ (H : Digest) (L : LawfulDigest H) (p s : List ℕ) (c : ℕ) where
   unfolding pbkdf2
   str-pbkdf2 n = str-crop n (str-Ts (pieceCount (H .size) n)) (pieceCount-covers (H .size) n (omega (arith, L .at-least)))
 
-  -- all blocks that n bytes need, cropped
-  pub Ts-end : (out : List ℕ) (j n : ℕ) → length out ≡ n → j ≡ pieceCount (H .size) n → take (H .size * j) out ≡ take n (Ts H p s c j) → out ≡ pbkdf2 H p s c n
+  -- all blocks that out needs, cropped
+  pub Ts-end : (out : List ℕ) (j : ℕ) → j ≡ pieceCount (H .size) (length out) → take (H .size * j) out ≡ take (length out) (Ts H p s c j)
+      → out ≡ pbkdf2 H p s c (length out)
   unfolding pbkdf2
-  Ts-end out j n lo ej i =
-      let g : n ≤ H .size * pieceCount (H .size) n = pieceCount-covers (H .size) n (omega (arith, L .at-least)) in
-      sym (take-all (H .size * j) out (rw ej (omega arith))) ∙ i ∙ ap (λ (k : ℕ). take n (Ts H p s c k)) ej
+  Ts-end out j ej i =
+      let g : length out ≤ H .size * pieceCount (H .size) (length out) = pieceCount-covers (H .size) (length out) (omega (arith, L .at-least)) in
+      sym (take-all (H .size * j) out (rw ej g)) ∙ i ∙ ap (λ (k : ℕ). take (length out) (Ts H p s c k)) ej

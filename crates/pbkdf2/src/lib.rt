@@ -1,12 +1,12 @@
 // PBKDF2-HMAC-SHA-1 (RFC 8018), two compressions for a value of HMAC. The blocks of the derived key are made by fours, side by side,
 // and what is left of them one by one.
 ghost use mathlib.Core.Path.{_≡_};
-ghost use mathlib.Core.List.{_++_};
 ghost use Prim.Native.Nat.{_+_, _-_, _*_, _≤_, _<_, _^_};
 ghost use lib.ListN.{length, take};
-ghost use Rattle.octets.specs.Octets.{be32, xors};
+ghost use Rattle.octets.specs.Octets.{xors};
+ghost use Rattle.octets.specs.Splice.{splice};
 ghost use Rattle.octets.specs.Pieces.{pieceCount};
-ghost use Rattle.sha1.specs.Sha1.{finish, digest, sha1};
+ghost use Rattle.sha1.specs.Sha1.{digest, sha1};
 ghost use Rattle.lanes.specs.Lanes.{Each, lane};
 ghost use Rattle.pbkdf2.specs.Pbkdf2.{folded, pbkdf2};
 ghost use Rattle.pbkdf2.specs.Words.{lastBlock, prfWords, firstWords, blockWords, fourBlocks, Holds};
@@ -72,29 +72,13 @@ fn iterate(inner: [u32; 5], outer: [u32; 5], first: [u32; 5], count: u32) -> [u3
     t
 }
 
-// The chaining words after the salt, the block's number and the padding, where s stand after the key block.
-fn salted(s: [u32; 5], salt: &[u8], n: u32) -> [u32; 5]
-    requires { ⌜ length (now salt) < 2 ^ 60 ⌝ }
-    ensures { λ r. ⌜ r ≡ finish s 64 (now (salt .entry) ++ be32 n) ⌝ }
-{
-    let v = sha1::absorb(s, salt);
-    let len = salt.len();
-    let r = len % 64;
-    let q = len - r;
-    let number = octets::be32(n);
-    let mut b = [0u8; 68];
-    octets::copy_into(&mut b, 0, &salt[q..]);
-    octets::copy_into(&mut b, r, &number);
-    let e = r + 4;
-    sha1::finish_words(v, 64 + q as u64, &b[..e])
-}
-
 // The first value for block n.
 fn first_words(inner: [u32; 5], outer: [u32; 5], salt: &[u8], n: u32) -> [u32; 5]
     requires { ⌜ length (now salt) < 2 ^ 60 ⌝ }
     ensures { λ r. ⌜ r ≡ firstWords inner outer (now (salt .entry)) n ⌝ }
 {
-    let h = salted(inner, salt, n);
+    let number = octets::be32(n);
+    let h = sha1::finish_words(inner, 64, salt, &number);
     sha1::compress_words(outer, last_block(h))
 }
 
@@ -185,6 +169,15 @@ fn four_blocks(inner: [u32; 5], outer: [u32; 5], salt: &[u8], count: u32, n: u32
     lanes::store(iterate_lanes(inner, outer, lanes::gather(a, b, c, d), count))
 }
 
+// Copies t into out from index at, as much of it as there is room for.
+fn put(out: &mut [u8], at: usize, t: &[u8])
+    requires { ⌜ at ≤ length (now out) ⌝ }
+    ensures { λ _. ⌜ now (out .exit) ≡ splice (now (out .entry)) at (take (length (now (out .entry)) - at) (now (t .entry))) ⌝ }
+{
+    let e = octets::min(t.len(), out.len() - at);
+    octets::copy_into(out, at, &t[..e]);
+}
+
 // The first blocks of the derived key, groups times four of them, into out, cropped where it ends.
 fn put_fours(
     out: &mut [u8],
@@ -197,12 +190,10 @@ fn put_fours(
     requires { ⌜ (1 ≤ count) × (length (now salt) < 2 ^ 60) × (length (now out) ≤ 20 * (2 ^ 32 - 1)) × (4 * groups ≤ pieceCount 20 (length (now out))) ⌝ }
     ensures { λ _. ⌜ Holds inner outer (now (salt .entry)) count (4 * groups) (now (out .exit)) ⌝ }
 {
-    let n = out.len();
     for g in 0..groups {
-        let at = 80 * g;
-        let t = four_blocks(inner, outer, salt, count, (4 * g + 1) as u32);
-        let e = octets::min(80, n - at);
-        octets::copy_into(out, at, &t[..e]);
+        let done = 4 * g;
+        let t = four_blocks(inner, outer, salt, count, (done + 1) as u32);
+        put(out, 20 * done, &t);
     }
 }
 
@@ -212,13 +203,10 @@ fn put_rest(out: &mut [u8], inner: [u32; 5], outer: [u32; 5], salt: &[u8], count
         × Holds inner outer (now salt) count done (now out) ⌝ }
     ensures { λ _. ⌜ Holds inner outer (now (salt .entry)) count (pieceCount 20 (length (now (out .entry)))) (now (out .exit)) ⌝ }
 {
-    let n = out.len();
-    let blocks = (n + 19) / 20;
+    let blocks = (out.len() + 19) / 20;
     for j in done..blocks {
-        let at = 20 * j;
         let t = block(inner, outer, salt, count, (j + 1) as u32);
-        let e = octets::min(20, n - at);
-        octets::copy_into(out, at, &t[..e]);
+        put(out, 20 * j, &t);
     }
 }
 

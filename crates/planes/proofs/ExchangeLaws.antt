@@ -9,7 +9,7 @@ use Rattle.planes.specs.Rows.{rowOf, putRow}
 use Rattle.planes.proofs.RowLaws.{Rows, rows-more, row-word, rows-word}
 
 -- two rows with bits exchanged: the first of them, or the second
-abbrev pub exchangedRow : ℕ → ℕ → ℕ → List ℕ → List ℕ → List ℕ
+abbrev exchangedRow : ℕ → ℕ → ℕ → List ℕ → List ℕ → List ℕ
 exchangedRow h s m x y =
     exchanged h s m (getD x 0 0) (getD y 0 0) ∷ exchanged h s m (getD x 1 0) (getD y 1 0) ∷ exchanged h s m (getD x 2 0) (getD y 2 0)
     ∷ exchanged h s m (getD x 3 0) (getD y 3 0) ∷ []

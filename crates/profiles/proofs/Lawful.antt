@@ -42,6 +42,6 @@ lawful k L = aesXtsSha1-lawful L
 pub built-lawful : LawfulTable built
 built-lawful = record { rows-ok = rows-ok; suites = λ k h. lawful k _ }
 
-pub merge-split-sha1 : (L n : ℕ) → 1 ≤ n → (random key : List ℕ) → Str ((n - 1) * L) random → Str L key
+merge-split-sha1 : (L n : ℕ) → 1 ≤ n → (random key : List ℕ) → Str ((n - 1) * L) random → Str L key
     → merge (diffuse sha1) L n (split (diffuse sha1) L n random key) ≡ key
 merge-split-sha1 = diffused-merge-split sha1 sha1.lawful

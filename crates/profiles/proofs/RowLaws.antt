@@ -83,7 +83,7 @@ sameText-padded name field k n = by-suc name field k n ∙ ap (λ (m : ℕ). sam
 -- ---- a row in code
 
 -- a row with its names padded as in a header
-abbrev pub coded : rules.Profile → Profile
+abbrev coded : rules.Profile → Profile
 coded p =
     record {
       number = p .number;
@@ -95,11 +95,11 @@ coded p =
       «min_checksum_count» = p .minChecksumCount;
     }
 
-pub coded-is : (p : rules.Profile) → IsProfile (coded p) p
+coded-is : (p : rules.Profile) → IsProfile (coded p) p
 coded-is p = record { number-is = refl; cipher-is = refl; mode-is = refl; hash-is = refl; key-is = refl; slot-count-is = refl; checksum-count-is = refl }
 
 -- a name that a field of 32 bytes can hold: no zero byte, and room for one behind it
-abbrev pub nameOk : List ℕ → Bool
+abbrev nameOk : List ℕ → Bool
 nameOk x = named x && leb (length x) 31
 
 abbrev pub namesOk : rules.Profile → Bool
@@ -113,7 +113,7 @@ holds-is name field h =
     ap (λ (k : ℕ). sameText field (name ++ zeros k)) n ∙ sameText-padded name field (31 - length name) (p .0)
 
 -- the code's test of a row is the rules'
-pub fits-is : (cipher mode hash : List ℕ) (L : ℕ) (p : rules.Profile) → namesOk p ≡ true → hasRow cipher mode hash L (coded p) ≡ rules.fits p cipher mode hash L
+fits-is : (cipher mode hash : List ℕ) (L : ℕ) (p : rules.Profile) → namesOk p ≡ true → hasRow cipher mode hash L (coded p) ≡ rules.fits p cipher mode hash L
 unfolding hasRow rules.fits
 fits-is cipher mode hash L p h =
     let a = and-split (nameOk (p .cipher)) (nameOk (p .mode) && nameOk (p .hash)) h in
@@ -124,13 +124,13 @@ fits-is cipher mode hash L p h =
 -- ---- the lookups, a turn of each loop and its end
 
 -- beyond the table
-abbrev pub noRow : Profile
+abbrev noRow : Profile
 noRow =
     record { number = 0; cipher = []; mode = []; hash = []; «key_bytes» = 0; «min_slot_count» = 0; «min_checksum_count» = 0 }
 
 module _ (rows : List rules.Profile) where
   -- the row at index i, as the code has it
-  abbrev pub rowAt : ℕ → Profile
+  abbrev rowAt : ℕ → Profile
   rowAt i = getD (map coded rows) i noRow
 
   row-is : (i : ℕ) → i < length rows → rowAt i ≡ coded (getD rows i rules.noProfile)

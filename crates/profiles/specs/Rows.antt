@@ -4,15 +4,15 @@ use Prim.Native.Nat.{ℕ}
 use Rattle.rules.specs.Profiles.{Profile}
 
 -- "aes"
-abbrev pub aesName : List ℕ
+abbrev aesName : List ℕ
 aesName = 0x61 ∷ 0x65 ∷ 0x73 ∷ []
 
 -- "xts-plain64"
-abbrev pub xtsPlain64Name : List ℕ
+abbrev xtsPlain64Name : List ℕ
 xtsPlain64Name = 0x78 ∷ 0x74 ∷ 0x73 ∷ 0x2D ∷ 0x70 ∷ 0x6C ∷ 0x61 ∷ 0x69 ∷ 0x6E ∷ 0x36 ∷ 0x34 ∷ []
 
 -- "sha1"
-abbrev pub sha1Name : List ℕ
+abbrev sha1Name : List ℕ
 sha1Name = 0x73 ∷ 0x68 ∷ 0x61 ∷ 0x31 ∷ []
 
 -- a profile with aes and xts-plain64; "a smallest count of 1,000, for slots and checksum"

@@ -11,9 +11,9 @@ use Rattle.octets.proofs.BoolLaws.{and-no, and-yes}
 use Rattle.octets.proofs.OctetsLaws.{drop-zeros}
 use Rattle.sha1.specs.Sha1.{sha1}
 use Rattle.pbkdf2.specs.Pbkdf2.{pbkdf2}
-use Rattle.rules.specs.Facts.{Facts, SlotFacts, factsOf, slotAt, slotOf, isEnabled, enabled, disabled, matches, checksumOf, slotInput, keyMaterial, candidateOf, candidate}
+use Rattle.rules.specs.Facts.{Facts, SlotFacts, factsOf, slotAt, slotOf, isEnabled, matches, checksumOf, slotInput, keyMaterial, candidateOf, candidate}
 use Rattle.rules.specs.Calls.{slotNumberOk, opens}
-use Rattle.rules.specs.Step.{written, recordHead, slotWrites, enableWrites, disableWrites}
+use Rattle.rules.specs.Step.{written, recordHead, slotWrites}
 use Rattle.rules.proofs.ArgumentLaws.{number-in}
 use Rattle.rules.proofs.StepLaws.{slotOf-image}
 use Rattle.profiles.specs.Suites.{aesXtsSha1, suiteOf, built}
@@ -99,26 +99,16 @@ pub head-is : (h salt : List ℕ) (state count : ℕ) → length salt ≡ 32 →
 unfolding splice recordHead bigEndian
 head-is h salt state count l e = e ∙ rw (l, append-nil salt)
 
--- a head of 40 bytes at its record's place is inside the image
-pub record-fits : (slot : ℕ) {place n m k : ℕ} → 1 ≤ slot → slot ≤ 8 → place ≡ 208 + (slot - 1) * 48 → n ≡ 40 → m ≡ k → 1024 ≤ k → place + n ≤ m
-record-fits slot h₁ h₈ e w l z = omega arith
-
 module _ (image : List ℕ) (slot start : ℕ) (s : start ≡ slotOf (factsIn image) slot .start) (area head a₁ a₂ : List ℕ)
-    (e₁ : a₁ ≡ splice image (start * 512) area) (place : ℕ) (ep : place ≡ 208 + (slot - 1) * 48) (e₂ : a₂ ≡ splice a₁ place head) where
+    (e₁ : a₁ ≡ splice image (start * 512) area) (e₂ : a₂ ≡ splice a₁ (208 + (slot - 1) * 48) head) where
   -- a slot's area, then the head of its record
-  slot-written : a₂ ≡ written (slotWrites (factsIn image) slot area head) image
+  pub slot-written : a₂ ≡ written (slotWrites (factsIn image) slot area head) image
   unfolding written slotWrites
-  slot-written =
-      e₂ ∙ ap₂ (λ (a : List ℕ) (p : ℕ). splice a p head) (e₁ ∙ ap (λ (n : ℕ). splice image (n * 512) area) s) ep
+  slot-written = e₂ ∙ ap (λ (a : List ℕ). splice a (208 + (slot - 1) * 48) head) (e₁ ∙ ap (λ (n : ℕ). splice image (n * 512) area) s)
 
-  pub slot-disabled : head ≡ recordHead disabled 0 (zeros 32) → a₂ ≡ written (disableWrites (factsIn image) slot area) image
-  unfolding disableWrites
-  slot-disabled eh = slot-written ∙ ap (λ (x : List ℕ). written (slotWrites (factsIn image) slot area x) image) eh
-
-  pub slot-enabled : (n L count : ℕ) (key passphrase salt random : List ℕ) → n ≡ slotOf (factsIn image) slot .stripes → L ≡ factsIn image .profile .keyBytes
-      → area ≡ keyMaterial aesXtsSha1 L n key (slotInput passphrase salt count random) → head ≡ recordHead enabled count salt
-      → a₂ ≡ written (enableWrites (factsIn image) slot key (slotInput passphrase salt count random)) image
-  unfolding enableWrites
-  slot-enabled n L count key passphrase salt random en eL ea eh =
-      let m = ea ∙ (λ j. keyMaterial (sym (suite-is image) j) (eL j) (en j) key (slotInput passphrase salt count random)) in
-      slot-written ∙ ap₂ (λ (a b : List ℕ). written (slotWrites (factsIn image) slot a b) image) m eh
+-- the area is the rules' key material
+pub material-is : (image : List ℕ) (slot n L count : ℕ) (key passphrase salt random area : List ℕ)
+    → n ≡ slotOf (factsIn image) slot .stripes → L ≡ factsIn image .profile .keyBytes → area ≡ keyMaterial aesXtsSha1 L n key (slotInput passphrase salt count random)
+    → area ≡ keyMaterial (factsIn image .suite) (factsIn image .profile .keyBytes) (slotOf (factsIn image) slot .stripes) key (slotInput passphrase salt count random)
+material-is image slot n L count key passphrase salt random area en eL ea =
+    ea ∙ (λ j. keyMaterial (sym (suite-is image) j) (eL j) (en j) key (slotInput passphrase salt count random))

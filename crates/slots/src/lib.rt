@@ -1,8 +1,9 @@
 // The slots' work below the calls: a key's checksum tested, a slot tried with a passphrase, a slot enabled and disabled.
 ghost use mathlib.Core.Path.{_≡_};
 ghost use mathlib.Core.Bool.{true};
-ghost use Prim.Native.Nat.{_+_, _*_, _≤_};
+ghost use Prim.Native.Nat.{_+_, _-_, _*_, _≤_};
 ghost use lib.ListN.{length};
+ghost use Rattle.octets.specs.Splice.{splice};
 ghost use Rattle.rules.specs.Facts.{slotOf, isEnabled, matches, candidate, slotInput};
 ghost use Rattle.rules.specs.Calls.{slotNumberOk, passphraseOk, keyOk, countOk, randomOk};
 ghost use Rattle.rules.specs.Step.{written, recordHead, enableWrites, disableWrites};
@@ -73,8 +74,18 @@ fn record_head(state: u32, count: u32, salt: &[u8; 32]) -> [u8; 40]
     head
 }
 
-// Fills the slot's area with the split and enciphered key, and enables its record.
-// The salt's length stands in the contract for a caller that only passes the salt on.
+// Writes the head of a slot's record. The salt's length stands in the contract for a caller that only passes the salt on.
+fn put_head(image: &mut [u8], slot: u8, state: u32, count: u32, salt: &[u8; 32])
+    requires { ⌜ (1024 ≤ length (now image)) × (slotNumberOk slot ≡ true) ⌝ }
+    ensures { λ _. ⌜ (now (image .exit) ≡ splice (now (image .entry)) (208 + (slot - 1) * 48) (recordHead state count (now (salt .entry))))
+        × (length (now (salt .entry)) ≡ 32) ⌝ }
+{
+    let head = record_head(state, count, salt);
+    let place = header::facts::record_at((slot - 1) as usize);
+    octets::copy_into(image, place, &head);
+}
+
+// Fills the slot's area with the split and enciphered key, and enables its record. The salt's length is said as in put_head.
 pub fn enable_slot(
     image: &mut [u8],
     slot: u8,
@@ -94,9 +105,7 @@ pub fn enable_slot(
     let n = s.stripes as usize;
     let end = at + n * key.len();
     keyslot::fill(&mut image[at..end], key, passphrase, salt, count, random, n);
-    let head = record_head(header::ENABLED, count, salt);
-    let place = header::facts::record_at((slot - 1) as usize);
-    octets::copy_into(image, place, &head);
+    put_head(image, slot, header::ENABLED, count, salt);
 }
 
 // Fills the slot's area, as far as the filler goes, and disables its record.
@@ -108,7 +117,5 @@ pub fn disable_slot(image: &mut [u8], slot: u8, filler: &[u8])
     let s = header::facts::slot_of(image, slot);
     let area = s.start.0 as usize * 512;
     octets::copy_into(image, area, filler);
-    let head = record_head(header::DISABLED, 0, &[0u8; 32]);
-    let place = header::facts::record_at((slot - 1) as usize);
-    octets::copy_into(image, place, &head);
+    put_head(image, slot, header::DISABLED, 0, &[0u8; 32]);
 }

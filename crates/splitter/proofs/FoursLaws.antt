@@ -64,7 +64,7 @@ hash-piece d s i e =
 -- ---- the words that are stored
 
 -- the first 16, where the words of the pieces are a b c e f
-abbrev pub pieceRows : List ℕ → List ℕ → List ℕ → List ℕ → List ℕ → List (List ℕ)
+abbrev pieceRows : List ℕ → List ℕ → List ℕ → List ℕ → List ℕ → List (List ℕ)
 pieceRows a b c e f =
     (0 ∷ 1 ∷ 2 ∷ 3 ∷ []) ∷ a ∷ b ∷ c ∷ e ∷ f ∷ (0x80000000 ∷ 0x80000000 ∷ 0x80000000 ∷ 0 ∷ [])
     ∷ four 0 ∷ four 0 ∷ four 0 ∷ four 0 ∷ four 0 ∷ four 0 ∷ four 0 ∷ four 0 ∷ (192 ∷ 192 ∷ 192 ∷ 64 ∷ []) ∷ []

@@ -105,7 +105,7 @@ pub fn diffuse_in(d: &mut [u8])
 }
 
 // One stripe: the running block d becomes H(d xor stripe).
-pub fn add_stripe(d: &mut [u8], stripe: &[u8])
+fn add_stripe(d: &mut [u8], stripe: &[u8])
     requires { ⌜ (length (now d) < 2 ^ 32) × (length (now stripe) ≡ length (now d)) ⌝ }
     ensures { λ _. ⌜ now (d .exit) ≡ diffuse sha1 (xors (now (d .entry)) (now (stripe .entry))) ⌝ }
 {
@@ -151,7 +151,8 @@ pub fn merge_into(d: &mut [u8], stripes: &[u8], n: usize)
 // The last stripe, from the key and the m stripes before it, in d.
 fn last_stripe(d: &mut [u8], key: &[u8], random: &[u8], m: usize)
     requires { ⌜ (length (now d) ≡ length (now key)) × (length (now random) ≡ m * length (now key)) × (length (now key) < 2 ^ 32) ⌝ }
-    ensures { λ _. ⌜ now (d .exit) ≡ xors (running (diffuse sha1) (length (now (key .entry))) (zeros (length (now (key .entry)))) m (now (random .entry))) (now (key .entry)) ⌝ }
+    ensures { λ _. ⌜ now (d .exit)
+        ≡ xors (running (diffuse sha1) (length (now (key .entry))) (zeros (length (now (key .entry)))) m (now (random .entry))) (now (key .entry)) ⌝ }
 {
     octets::clear(d);
     add_stripes(d, random, m);
@@ -160,7 +161,8 @@ fn last_stripe(d: &mut [u8], key: &[u8], random: &[u8], m: usize)
 
 // The n stripes of a key, in area: the random ones, and the last computed behind them.
 pub fn split_into(area: &mut [u8], key: &[u8], random: &[u8], n: usize)
-    requires { ⌜ (1 ≤ n) × (length (now area) ≡ (n - 1) * length (now key) + length (now key)) × (length (now random) ≡ (n - 1) * length (now key)) × (length (now key) < 2 ^ 32) ⌝ }
+    requires { ⌜ (1 ≤ n) × (length (now area) ≡ (n - 1) * length (now key) + length (now key)) × (length (now random) ≡ (n - 1) * length (now key))
+        × (length (now key) < 2 ^ 32) ⌝ }
     ensures { λ _. ⌜ now (area .exit) ≡ split (diffuse sha1) (length (now (key .entry))) n (now (random .entry)) (now (key .entry)) ⌝ }
 {
     octets::copy_into(area, 0, random);

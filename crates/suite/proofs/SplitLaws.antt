@@ -24,7 +24,7 @@ stripe-inside L m count h = let k : (m + 1) * L ≤ count * L = mul-le-mul-right
 -- ---- merging undoes splitting
 
 module _ (H : List ℕ → List ℕ) (keeps : (n : ℕ) (x : List ℕ) → Str n x → Str n (H x)) (L : ℕ) where
-  pub str-running : (m : ℕ) (d s : List ℕ) → Str L d → Str (m * L) s → Str L (running H L d m s)
+  str-running : (m : ℕ) (d s : List ℕ) → Str L d → Str (m * L) s → Str L (running H L d m s)
   unfolding running
   str-running zero d s h k = h
   str-running (suc m) d s h k =
@@ -70,7 +70,7 @@ module _ (H : List ℕ → List ℕ) (L : ℕ) where
       let a : count - m ≡ 0 = omega arith in
       ap (λ (n : ℕ). running H L d n s) (sym a) ∙ e
 
-  pub running-append : (m k : ℕ) (d y z : List ℕ) → length y ≡ m * L → running H L d (m + k) (y ++ z) ≡ running H L (running H L d m y) k z
+  running-append : (m k : ℕ) (d y z : List ℕ) → length y ≡ m * L → running H L d (m + k) (y ++ z) ≡ running H L (running H L d m y) k z
   unfolding running
   running-append zero k d [] z l = ap (λ (n : ℕ). running H L d n z) (let e : 0 + k ≡ k = omega arith in e)
   running-append zero k d (x ∷ y) z l = absurd (omega arith)

@@ -1,11 +1,9 @@
 // Official vectors of the primitives, run against the code: one line for each, its name and ok or FAILED.
-mod annex_b;
 mod blocks;
 mod derivations;
 mod digests;
 mod hex;
 mod hmacs;
-mod report;
 mod splits;
 mod units;
 
@@ -18,12 +16,7 @@ fn main() {
     derivations::cases_5_and_6();
     blocks::keys_of_16();
     blocks::keys_of_32();
-    units::vectors_1_to_3();
-    units::vectors_4_to_6();
-    units::vectors_7_to_9();
-    units::vectors_10_to_12();
-    units::vectors_13_and_14();
-    units::vector_19();
+    units::annex_b();
     splits::diffusion();
     splits::one_of_32();
     splits::three_of_32();

@@ -1,69 +1,54 @@
 // The splitter: values computed once by tools/split_vectors.py, which uses Python's hashlib. The key is the bytes 0, 1, 2, ..
 // and the random stripes are the bytes 7, 14, 21, .. modulo 256.
 ghost use mathlib.Core.Path.{_≡_};
-ghost use Prim.Native.Nat.{_+_, _-_, _*_, _≤_, _<_, _^_};
+ghost use Prim.Native.Nat.{_+_, _-_, _*_, _≤_};
 ghost use lib.ListN.{length};
 
-// Fills s with first, first + by, first + 2 by, .. modulo 256.
-fn count_up(s: &mut [u8], first: u32, by: u32)
-    requires { ⌜ (first < 256) × (by < 256) ⌝ }
-{
-    let mut value = first;
-    let mut i: usize = 0;
-    while i < s.len() {
-        s[i] = (value % 256) as u8;
-        value = (value + by) % 256;
-        i += 1;
-    }
-}
-
 // H of the key, in block.
-fn diffuses(block: &mut [u8], expected: &mut [u8], name: &[u8], digits: &[u8])
-    requires { ⌜ length (now block) < 2 ^ 32 ⌝ }
+fn diffuses(block: &mut [u8], name: &[u8], digits: &[u8])
+    requires { ⌜ length (now block) ≤ 512 ⌝ }
 {
-    count_up(block, 0, 1);
+    testing::sequence(block, 0, 1, 256);
     splitter::diffuse_in(block);
-    let whole = crate::hex::decode(expected, digits);
-    crate::report::line(name, whole && octets::equal(block, expected));
+    testing::line(name, crate::hex::same(block, digits));
 }
 
 // The key in n stripes: the last of them is as expected, and merged they give the key again, in back.
 fn splits(
     area: &mut [u8],
-    random: &mut [u8],
-    key: &mut [u8],
     back: &mut [u8],
+    key: &[u8],
+    random: &[u8],
     n: usize,
     name: &[u8],
     digits: &[u8],
 )
     requires { ⌜ (1 ≤ n) × (length (now area) ≡ (n - 1) * length (now key) + length (now key)) × (length (now random) ≡ (n - 1) * length (now key))
-        × (length (now key) < 2 ^ 32) × (length (now back) ≡ length (now key)) ⌝ }
+        × (length (now area) ≡ (n - 1) * length (now back) + length (now back)) × (length (now area) ≤ 512) ⌝ }
 {
-    count_up(key, 0, 1);
-    count_up(random, 7, 7);
     splitter::split_into(area, key, random, n);
-    let whole = crate::hex::decode(back, digits);
     let at = random.len();
-    let split = octets::equal(&area[at..], back);
+    let split = crate::hex::same(&area[at..], digits);
     splitter::merge_into(back, area, n);
-    crate::report::line(name, whole && split && octets::equal(back, key));
+    testing::line(name, split && octets::equal(back, key));
+}
+
+// The key and the random stripes.
+fn fill(key: &mut [u8], random: &mut [u8]) {
+    testing::sequence(key, 0, 1, 256);
+    testing::sequence(random, 7, 7, 256);
 }
 
 pub fn diffusion() {
     let mut block = [0u8; 32];
-    let mut expected = [0u8; 32];
     diffuses(
         &mut block,
-        &mut expected,
         b"Splitter, H of 32 bytes",
         b"84e066de1e0d3544386085dd64a6451af137c6f0348ec54d3df31b787d1ba9d0",
     );
     let mut long_block = [0u8; 64];
-    let mut long_expected = [0u8; 64];
     diffuses(
         &mut long_block,
-        &mut long_expected,
         b"Splitter, H of 64 bytes",
         b"84e066de1e0d3544386085dd64a6451af137c6f0763ce0597e836252b480a8de\
           10feea6c299aadfc50c93f84c57f997aad5b165e26adc93e046f03618780cc49",
@@ -75,11 +60,12 @@ pub fn one_of_32() {
     let mut random = [0u8; 0];
     let mut key = [0u8; 32];
     let mut back = [0u8; 32];
+    fill(&mut key, &mut random);
     splits(
         &mut area,
-        &mut random,
-        &mut key,
         &mut back,
+        &key,
+        &random,
         1,
         b"Splitter, 32 bytes in 1 stripe",
         b"000102030405060708090a0b0c0d0e0f101112131415161718191a1b1c1d1e1f",
@@ -91,11 +77,12 @@ pub fn three_of_32() {
     let mut random = [0u8; 64];
     let mut key = [0u8; 32];
     let mut back = [0u8; 32];
+    fill(&mut key, &mut random);
     splits(
         &mut area,
-        &mut random,
-        &mut key,
         &mut back,
+        &key,
+        &random,
         3,
         b"Splitter, 32 bytes in 3 stripes",
         b"30514da8a3d93ea570118e31369620ab6b52ae9fa8ec78f91a8b62b56eb7accd",
@@ -107,11 +94,12 @@ pub fn two_of_64() {
     let mut random = [0u8; 64];
     let mut key = [0u8; 64];
     let mut back = [0u8; 64];
+    fill(&mut key, &mut random);
     splits(
         &mut area,
-        &mut random,
-        &mut key,
         &mut back,
+        &key,
+        &random,
         2,
         b"Splitter, 64 bytes in 2 stripes",
         b"9011903dc4dc01dba1b75725ce2c4b1e1ba391050f2f6890a6df8e62808edb1d\
@@ -124,11 +112,12 @@ pub fn eight_of_64() {
     let mut random = [0u8; 448];
     let mut key = [0u8; 64];
     let mut back = [0u8; 64];
+    fill(&mut key, &mut random);
     splits(
         &mut area,
-        &mut random,
-        &mut key,
         &mut back,
+        &key,
+        &random,
         8,
         b"Splitter, 64 bytes in 8 stripes",
         b"ea6fb1442d7fe7bbe4a953ebd1757836e21d8f55b6c8979783f5b72a8dc5b65d\

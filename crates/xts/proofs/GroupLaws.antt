@@ -35,7 +35,7 @@ low-word : (x : ℕ) → column (x % 4294967296) ≡ littleEndian 4 x
 low-word x = column-is (x % 4294967296) ∙ sym (littleEndian-low 4 (x / 2 ^ 32) (x % 2 ^ 32)) ∙ ap (littleEndian 4) (split x 32)
 
 -- a number of eight bytes in two columns
-pub two-columns : (x : ℕ) → column (x % 4294967296) ++ column (x / 4294967296) ≡ littleEndian 8 x
+two-columns : (x : ℕ) → column (x % 4294967296) ++ column (x / 4294967296) ≡ littleEndian 8 x
 two-columns x = ap₂ _++_ (low-word x) (column-is (x / 4294967296)) ∙ sym (littleEndian-4-4 x)
 
 pub four-words : (lo hi : ℕ) → column (lo % 4294967296) ++ (column (lo / 4294967296) ++ (column (hi % 4294967296) ++ column (hi / 4294967296)))

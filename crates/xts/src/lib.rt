@@ -102,7 +102,8 @@ fn tweak_at(t: &[u32; 128], b: usize) -> Tweak
 // The blocks of q with the bytes of s added to them.
 fn load(q: &mut [u32; 128], s: &[u8])
     requires { ⌜ (length (now q) ≡ 128) × (length (now s) ≤ 512) × (length (now s) % 16 ≡ 0) ⌝ }
-    ensures { λ _. ⌜ (length (now (q .exit)) ≡ 128) × ((b : ℕ) → b < length (now (s .entry)) / 16 → block b (now (q .exit)) ≡ xors (part (now (s .entry)) (b * 16) 16) (block b (now (q .entry)))) ⌝ }
+    ensures { λ _. ⌜ (length (now (q .exit)) ≡ 128)
+        × ((b : ℕ) → b < length (now (s .entry)) / 16 → block b (now (q .exit)) ≡ xors (part (now (s .entry)) (b * 16) 16) (block b (now (q .entry)))) ⌝ }
 {
     let n = s.len() / 4;
     let mut j: usize = 0;
@@ -127,7 +128,8 @@ fn bytes(x: u32) -> [u8; 4]
 // The sums of the blocks of q and u, as many as s has, as its bytes.
 fn store(s: &mut [u8], q: &[u32; 128], u: &[u32; 128])
     requires { ⌜ (length (now q) ≡ 128) × (length (now u) ≡ 128) × (length (now s) ≤ 512) × (length (now s) % 16 ≡ 0) ⌝ }
-    ensures { λ _. ⌜ ((b : ℕ) → b < length (now (s .entry)) / 16 → part (now (s .exit)) (b * 16) 16 ≡ xors (block b (now (q .entry))) (block b (now (u .entry)))) ⌝ }
+    ensures { λ _. ⌜ ((b : ℕ) → b < length (now (s .entry)) / 16
+        → part (now (s .exit)) (b * 16) 16 ≡ xors (block b (now (q .entry))) (block b (now (u .entry)))) ⌝ }
 {
     let n = s.len() / 4;
     let mut j: usize = 0;
@@ -154,7 +156,8 @@ fn run_cipher(q: &mut [u32; 128], forward: bool, ks: &[u32], n: usize)
 // The blocks of s, the first under the tweak t.
 fn run_blocks(s: &mut [u8], t: Tweak, forward: bool, ks: &[u32], n: usize)
     requires { ⌜ (length (now s) ≤ 512) × (length (now s) % 16 ≡ 0) × ((n + 2) * 128 ≤ length (now ks)) ⌝ }
-    ensures { λ _. ⌜ ((w : List ℕ) → Sliced (n + 2) w (now (ks .entry)) → now (s .exit) ≡ blocks (cipherOf forward n w) (length (now (s .entry)) / 16) (tweakBytes t) (now (s .entry))) ⌝ }
+    ensures { λ _. ⌜ ((w : List ℕ) → Sliced (n + 2) w (now (ks .entry))
+        → now (s .exit) ≡ blocks (cipherOf forward n w) (length (now (s .entry)) / 16) (tweakBytes t) (now (s .entry))) ⌝ }
 {
     let u = tweaks(t);
     let mut q = u;
@@ -167,7 +170,8 @@ fn run_blocks(s: &mut [u8], t: Tweak, forward: bool, ks: &[u32], n: usize)
 
 // At most 32 data units in place, numbered from first, under the sliced key schedules ks of the blocks and vs of the tweaks.
 fn run_group(s: &mut [u8], first: u64, forward: bool, ks: &[u32], vs: &[u32], n: usize)
-    requires { ⌜ (length (now s) ≤ 16384) × (length (now s) % 16 ≡ 0) × (first + length (now s) < 2 ^ 64) × ((n + 2) * 128 ≤ length (now ks)) × ((n + 2) * 128 ≤ length (now vs)) ⌝ }
+    requires { ⌜ (length (now s) ≤ 16384) × (length (now s) % 16 ≡ 0) × (first + length (now s) < 2 ^ 64) × ((n + 2) * 128 ≤ length (now ks))
+        × ((n + 2) * 128 ≤ length (now vs)) ⌝ }
     ensures { λ _. ⌜ ((f : ℕ → List ℕ → List ℕ) → Under forward n (now (ks .entry)) (now (vs .entry)) f → now (s .exit) ≡ inUnits f first (now (s .entry))) ⌝ }
 {
     let t = first_tweaks(first, vs, n);
@@ -235,7 +239,7 @@ pub fn decrypt_sliced(s: &mut [u8], first: u64, ks: &[u32], vs: &[u32], n: usize
 }
 
 // The data units of s enciphered in place, numbered from first, under an expanded key.
-pub fn encrypt_units(s: &mut [u8], first: u64, keys: Keys)
+fn encrypt_units(s: &mut [u8], first: u64, keys: Keys)
     requires { ⌜ (length (now s) % 16 ≡ 0) × (first + length (now s) < 2 ^ 64) × Ready keys ⌝ }
     ensures { λ _. ⌜ now (s .exit) ≡ inUnits (unitEncrypt keys) first (now (s .entry)) ⌝ }
 {
@@ -243,7 +247,7 @@ pub fn encrypt_units(s: &mut [u8], first: u64, keys: Keys)
 }
 
 // The data units of s deciphered in place, numbered from first, under an expanded key.
-pub fn decrypt_units(s: &mut [u8], first: u64, keys: Keys)
+fn decrypt_units(s: &mut [u8], first: u64, keys: Keys)
     requires { ⌜ (length (now s) % 16 ≡ 0) × (first + length (now s) < 2 ^ 64) × Ready keys ⌝ }
     ensures { λ _. ⌜ now (s .exit) ≡ inUnits (unitDecrypt keys) first (now (s .entry)) ⌝ }
 {
@@ -252,7 +256,8 @@ pub fn decrypt_units(s: &mut [u8], first: u64, keys: Keys)
 
 // The data units of s enciphered in place, numbered from first, with a key of 32 or 64 bytes.
 pub fn encrypt_all(s: &mut [u8], first: u64, key: &[u8])
-    requires { ⌜ (length (now s) % 16 ≡ 0) × (first + length (now s) < 2 ^ 64) × (32 ≤ length (now key)) × (length (now key) ≤ 64) × (length (now key) % 32 ≡ 0) ⌝ }
+    requires { ⌜ (length (now s) % 16 ≡ 0) × (first + length (now s) < 2 ^ 64) × (32 ≤ length (now key)) × (length (now key) ≤ 64)
+        × (length (now key) % 32 ≡ 0) ⌝ }
     ensures { λ _. ⌜ now (s .exit) ≡ inUnits (xtsEncrypt (now (key .entry))) first (now (s .entry)) ⌝ }
 {
     encrypt_units(s, first, expand(key));
@@ -260,7 +265,8 @@ pub fn encrypt_all(s: &mut [u8], first: u64, key: &[u8])
 
 // The data units of s deciphered in place, numbered from first, with a key of 32 or 64 bytes.
 pub fn decrypt_all(s: &mut [u8], first: u64, key: &[u8])
-    requires { ⌜ (length (now s) % 16 ≡ 0) × (first + length (now s) < 2 ^ 64) × (32 ≤ length (now key)) × (length (now key) ≤ 64) × (length (now key) % 32 ≡ 0) ⌝ }
+    requires { ⌜ (length (now s) % 16 ≡ 0) × (first + length (now s) < 2 ^ 64) × (32 ≤ length (now key)) × (length (now key) ≤ 64)
+        × (length (now key) % 32 ≡ 0) ⌝ }
     ensures { λ _. ⌜ now (s .exit) ≡ inUnits (xtsDecrypt (now (key .entry))) first (now (s .entry)) ⌝ }
 {
     decrypt_units(s, first, expand(key));

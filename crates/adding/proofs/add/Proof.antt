@@ -3,8 +3,9 @@ use mathlib.Core.Path.{_≡_, sym, _∙_}
 use mathlib.Core.List.{List}
 use native.Mathlib.Omega.{arith}
 use lib.ListN.{length}
-use borrow.Author.Tests.{eqb-true, not-true, not-false}
+use borrow.Author.Tests.{eqb-true}
 use borrow.Author.Needs.{needs}
+use Rattle.octets.proofs.BoolLaws.{holds, fails}
 use Rattle.rules.specs.Checks.{Check, first}
 use Rattle.rules.specs.Facts.{Facts, slotInput}
 use Rattle.rules.specs.Calls.{Call, add, keyOk, earlyChecks, lateChecks, done, answer}
@@ -64,18 +65,9 @@ late-zero : (c : tie.Else3) → first (late (start₃ (c .before))) ≡ 0
 unfolding lateChecks
 late-zero c =
     let t = c .before .key-matches in
-    first-pass (late (start₃ (c .before))) (sym (t .ensures) ∙ not-false (t .result) (c .if3 .left), tt)
+    first-pass (late (start₃ (c .before))) (holds (t .ensures) (c .if3 .left), tt)
 
 -- ---- needs
-
-header-check-requires : tie.Need-header-check-requires
-header-check-requires c κs = search needs
-
-number-of-requires : tie.Need-number-of-requires
-number-of-requires c κs = search needs
-
-same-length : tie.Need-same-length
-same-length c = search needs
 
 returns : tie.Need-returns
 returns c =
@@ -86,12 +78,6 @@ returns c =
 
 add-check-requires : tie.Need-add-check-requires
 add-check-requires c κs = header-ok (c .before)
-
-number-of-requires-2 : tie.Need-number-of-requires-2
-number-of-requires-2 c κs = search needs
-
-same-length-2 : tie.Need-same-length-2
-same-length-2 c = search needs
 
 returns-2 : tie.Need-returns-2
 returns-2 c =
@@ -109,9 +95,6 @@ key-matches-requires c κs =
     let s = start₂ (e .before) in
     (ok, omega (arith, eqb-true (length (s .args .key .now)) (facts s .profile .keyBytes) (early-passed e .1 .1 .0), sound (s .args .image .now) ok .key-most))
 
-same-length-3 : tie.Need-same-length-3
-same-length-3 c = search needs
-
 returns-3 : tie.Need-returns-3
 unfolding lateChecks
 returns-3 c =
@@ -121,7 +104,7 @@ returns-3 c =
     let t = c .before .key-matches in
     does-refused built m (called s) 17
     (step-late built m (called s) (header-ok (checked (e .before))) (early-zero e) 17 (λ q. omega arith)
-    (refused-by (late s) 0 tt (sym (t .ensures) ∙ not-true (t .result) (c .if3 .taken))))
+    (refused-by (late s) 0 tt (fails (t .ensures) (c .if3 .taken))))
 
 enable-slot-requires : tie.Need-enable-slot-requires
 unfolding earlyChecks
@@ -129,9 +112,6 @@ enable-slot-requires c κs =
     let e = judged (c .before .before) in
     let p = early-passed e in
     (header-ok (checked (e .before)), p .0, p .1 .1 .0, p .1 .1 .1 .0, p .1 .1 .1 .1 .0, p .1 .1 .1 .1 .1 .0)
-
-same-length-4 : tie.Need-same-length-4
-same-length-4 c = search needs
 
 returns-4 : tie.Need-returns-4
 unfolding answer done writes
@@ -147,17 +127,17 @@ pub add-spec : {M : Type 1} → statement M
 add-spec =
     tie.close
     (tie.spec
-    header-check-requires
-    number-of-requires
-    same-length
+    (λ header-check-requires κs. search needs)
+    (λ number-of-requires κs. search needs)
+    (λ same-length. search needs)
     returns
     add-check-requires
-    number-of-requires-2
-    same-length-2
+    (λ number-of-requires-2 κs. search needs)
+    (λ same-length-2. search needs)
     returns-2
     key-matches-requires
-    same-length-3
+    (λ same-length-3. search needs)
     returns-3
     enable-slot-requires
-    same-length-4
+    (λ same-length-4. search needs)
     returns-4)

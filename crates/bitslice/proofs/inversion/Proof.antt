@@ -5,42 +5,6 @@ use borrow.Author.Needs.{needs}
 use Rattle.bitslice.proofs.inversion.Statement.{statement}
 use Rattle.bitslice.proofs.inversion.Tie as tie
 
-array-read-t26 : tie.Need-array-read-t26
-array-read-t26 c = search needs
-
-array-read-t26-2 : tie.Need-array-read-t26-2
-array-read-t26-2 c = search needs
-
-array-read-t25 : tie.Need-array-read-t25
-array-read-t25 c = search needs
-
-array-read-t25-2 : tie.Need-array-read-t25-2
-array-read-t25-2 c = search needs
-
-array-read-t27 : tie.Need-array-read-t27
-array-read-t27 c = search needs
-
-array-read-t30 : tie.Need-array-read-t30
-array-read-t30 c = search needs
-
-array-read-t30-2 : tie.Need-array-read-t30-2
-array-read-t30-2 c = search needs
-
-array-read-t31 : tie.Need-array-read-t31
-array-read-t31 c = search needs
-
-array-read-t33 : tie.Need-array-read-t33
-array-read-t33 c = search needs
-
-array-read-t34 : tie.Need-array-read-t34
-array-read-t34 c = search needs
-
-array-read-t29 : tie.Need-array-read-t29
-array-read-t29 c = search needs
-
-array-read-t36 : tie.Need-array-read-t36
-array-read-t36 c = search needs
-
 returns : tie.Need-returns
 unfolding inversion inversionOf
 returns c = refl
@@ -49,16 +13,16 @@ pub inversion-spec : {M : Type 1} → statement M
 inversion-spec =
     tie.close
     (tie.spec
-    array-read-t26
-    array-read-t26-2
-    array-read-t25
-    array-read-t25-2
-    array-read-t27
-    array-read-t30
-    array-read-t30-2
-    array-read-t31
-    array-read-t33
-    array-read-t34
-    array-read-t29
-    array-read-t36
+    (λ array-read-t26. search needs)
+    (λ array-read-t26-2. search needs)
+    (λ array-read-t25. search needs)
+    (λ array-read-t25-2. search needs)
+    (λ array-read-t27. search needs)
+    (λ array-read-t30. search needs)
+    (λ array-read-t30-2. search needs)
+    (λ array-read-t31. search needs)
+    (λ array-read-t33. search needs)
+    (λ array-read-t34. search needs)
+    (λ array-read-t29. search needs)
+    (λ array-read-t36. search needs)
     returns)

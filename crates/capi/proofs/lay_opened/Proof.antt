@@ -7,23 +7,11 @@ use Rattle.capi.proofs.lay_opened.Statement.{statement}
 use Rattle.capi.proofs.lay_opened.Tie as tie
 use Rattle.capi.proofs.OpenedLaws.{laid}
 
-slice-aggregate-copy-into : tie.Need-slice-aggregate-copy-into
-slice-aggregate-copy-into c = search needs
-
-copy-into-requires : tie.Need-copy-into-requires
-copy-into-requires c κs = search needs
-
-slice-aggregate-copy-into-2 : tie.Need-slice-aggregate-copy-into-2
-slice-aggregate-copy-into-2 c = search needs
-
 copy-into-requires-2 : tie.Need-copy-into-requires-2
 copy-into-requires-2 c κs =
     let k : length (c .before .before .before .before .before .before .args .o .key) ≡ 64 = search needs in
     let m : length (c .before .before .copy-into .last .0) ≡ 66 = search needs in
     omega arith
-
-number-of-requires : tie.Need-number-of-requires
-number-of-requires c κs = search needs
 
 returns : tie.Need-returns
 returns c =
@@ -38,9 +26,9 @@ pub lay-opened-spec : {M : Type 1} → statement M
 lay-opened-spec =
     tie.close
     (tie.spec
-    slice-aggregate-copy-into
-    copy-into-requires
-    slice-aggregate-copy-into-2
+    (λ slice-aggregate-copy-into. search needs)
+    (λ copy-into-requires κs. search needs)
+    (λ slice-aggregate-copy-into-2. search needs)
     copy-into-requires-2
-    number-of-requires
+    (λ number-of-requires κs. search needs)
     returns)

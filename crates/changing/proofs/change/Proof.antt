@@ -113,15 +113,6 @@ front c =
 
 -- ---- needs
 
-header-check-requires : tie.Need-header-check-requires
-header-check-requires c κs = search needs
-
-number-of-requires : tie.Need-number-of-requires
-number-of-requires c κs = search needs
-
-same-length : tie.Need-same-length
-same-length c = search needs
-
 returns : tie.Need-returns
 returns c =
     let s = start₁ (c .before) in
@@ -131,12 +122,6 @@ returns c =
 
 change-check-requires : tie.Need-change-check-requires
 change-check-requires c κs = header-ok (c .before)
-
-number-of-requires-2 : tie.Need-number-of-requires-2
-number-of-requires-2 c κs = search needs
-
-same-length-2 : tie.Need-same-length-2
-same-length-2 c = search needs
 
 returns-2 : tie.Need-returns-2
 returns-2 c =
@@ -148,9 +133,6 @@ returns-2 c =
 
 try-slot-requires : tie.Need-try-slot-requires
 try-slot-requires c κs = let e = c .before in (header-ok (checked (e .before)), fit e .from-ok, fit e .old-ok)
-
-same-length-3 : tie.Need-same-length-3
-same-length-3 c = search needs
 
 returns-3 : tie.Need-returns-3
 unfolding lateChecks
@@ -164,9 +146,6 @@ returns-3 c =
 
 key-bytes-requires : tie.Need-key-bytes-requires
 key-bytes-requires c κs = let t = tried (c .before) in sound (start₃ t .args .image .now) (ok₃ t) .named
-
-cast-l : tie.Need-cast-l
-cast-l c = search needs
 
 array-share-prefix-key : tie.Need-array-share-prefix-key
 array-share-prefix-key c =
@@ -184,9 +163,6 @@ move-key-requires c κs =
     let t = trial k in
     let g = fit (judged t) in
     (ok₃ t, g .from-ok, g .to-ok, eq-eqb _ _ (ap length (front k) ∙ candidate-length k), g .new-ok, g .count-ok, g .random-ok, g .filler-ok)
-
-same-length-4 : tie.Need-same-length-4
-same-length-4 c = search needs
 
 returns-4 : tie.Need-returns-4
 unfolding answer done writes
@@ -206,21 +182,21 @@ pub change-spec : {M : Type 1} → statement M
 change-spec =
     tie.close
     (tie.spec
-    header-check-requires
-    number-of-requires
-    same-length
+    (λ header-check-requires κs. search needs)
+    (λ number-of-requires κs. search needs)
+    (λ same-length. search needs)
     returns
     change-check-requires
-    number-of-requires-2
-    same-length-2
+    (λ number-of-requires-2 κs. search needs)
+    (λ same-length-2. search needs)
     returns-2
     try-slot-requires
-    same-length-3
+    (λ same-length-3. search needs)
     returns-3
     key-bytes-requires
-    cast-l
+    (λ cast-l. search needs)
     array-share-prefix-key
     slice-aggregate-move-key
     move-key-requires
-    same-length-4
+    (λ same-length-4. search needs)
     returns-4)

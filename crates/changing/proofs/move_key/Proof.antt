@@ -16,9 +16,6 @@ start c = c .before .before .before .before .before .before .before
 abbrev input : tie.Start → SlotInput
 input s = let a = s .args in slotInput (a .new .now) (a .salt .now) (a .count) (a .random .now)
 
-enable-slot-requires : tie.Need-enable-slot-requires
-enable-slot-requires c κs = search needs
-
 disable-slot-requires : tie.Need-disable-slot-requires
 disable-slot-requires c κs =
     let p = c .before .before .before in
@@ -30,9 +27,6 @@ disable-slot-requires c κs =
     let r = filler-fits (a .image .now) (q .0) (a .from) (a .to) (q .1) (q .2) (a .key .now) (input s) (e .ensures .1) (a .filler .now) (e .last .0) (e .ensures .0) (q .7) in
     (omega (arith, l, sound (a .image .now) (q .0) .size), q .1, omega (arith, l, r))
 
-same-length : tie.Need-same-length
-same-length c = search needs
-
 returns : tie.Need-returns
 returns c =
     let p = c .before .before .before .before .before .before in
@@ -43,4 +37,4 @@ returns c =
     moved (a .image .now) (q .0) (a .from) (a .to) (q .1) (q .2) (a .key .now) (input s) (e .ensures .1) (a .filler .now) (e .last .0) (e .ensures .0) _ (c .before .before .disable-slot .ensures)
 
 pub move-key-spec : {M : Type 1} → statement M
-move-key-spec = tie.close (tie.spec enable-slot-requires disable-slot-requires same-length returns)
+move-key-spec = tie.close (tie.spec (λ enable-slot-requires κs. search needs) disable-slot-requires (λ same-length. search needs) returns)

@@ -4,15 +4,6 @@ use borrow.Author.Needs.{needs}
 use Rattle.cipher.proofs.inv_last_round.Statement.{statement}
 use Rattle.cipher.proofs.inv_last_round.Tie as tie
 
-xor-words-requires : tie.Need-xor-words-requires
-xor-words-requires c κs = search needs
-
-inv-sub-bytes-requires : tie.Need-inv-sub-bytes-requires
-inv-sub-bytes-requires c κs = search needs
-
-inv-shift-rows-requires : tie.Need-inv-shift-rows-requires
-inv-shift-rows-requires c κs = search needs
-
 returns : tie.Need-returns
 returns c =
     let a = c .before .before .before .before .before .before .before .before .args in
@@ -23,4 +14,4 @@ returns c =
 
 pub inv-last-round-spec : {M : Type 1} → statement M
 inv-last-round-spec =
-    tie.close (tie.spec xor-words-requires inv-sub-bytes-requires inv-shift-rows-requires returns)
+    tie.close (tie.spec (λ xor-words-requires κs. search needs) (λ inv-sub-bytes-requires κs. search needs) (λ inv-shift-rows-requires κs. search needs) returns)

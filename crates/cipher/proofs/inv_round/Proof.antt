@@ -4,15 +4,6 @@ use borrow.Author.Needs.{needs}
 use Rattle.cipher.proofs.inv_round.Statement.{statement}
 use Rattle.cipher.proofs.inv_round.Tie as tie
 
-inv-mix-columns-requires : tie.Need-inv-mix-columns-requires
-inv-mix-columns-requires c κs = search needs
-
-inv-sub-bytes-requires : tie.Need-inv-sub-bytes-requires
-inv-sub-bytes-requires c κs = search needs
-
-inv-shift-rows-requires : tie.Need-inv-shift-rows-requires
-inv-shift-rows-requires c κs = search needs
-
 returns : tie.Need-returns
 returns c =
     let a = c .before .before .before .before .before .before .before .args in
@@ -24,4 +15,4 @@ returns c =
 pub inv-round-spec : {M : Type 1} → statement M
 inv-round-spec =
     tie.close
-    (tie.spec inv-mix-columns-requires inv-sub-bytes-requires inv-shift-rows-requires returns)
+    (tie.spec (λ inv-mix-columns-requires κs. search needs) (λ inv-sub-bytes-requires κs. search needs) (λ inv-shift-rows-requires κs. search needs) returns)

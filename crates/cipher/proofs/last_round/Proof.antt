@@ -4,15 +4,6 @@ use borrow.Author.Needs.{needs}
 use Rattle.cipher.proofs.last_round.Statement.{statement}
 use Rattle.cipher.proofs.last_round.Tie as tie
 
-shift-rows-requires : tie.Need-shift-rows-requires
-shift-rows-requires c κs = search needs
-
-sub-bytes-requires : tie.Need-sub-bytes-requires
-sub-bytes-requires c κs = search needs
-
-xor-words-requires : tie.Need-xor-words-requires
-xor-words-requires c κs = search needs
-
 returns : tie.Need-returns
 returns c =
     let a = c .before .before .before .before .before .before .before .before .args in
@@ -23,4 +14,4 @@ returns c =
 
 pub last-round-spec : {M : Type 1} → statement M
 last-round-spec =
-    tie.close (tie.spec shift-rows-requires sub-bytes-requires xor-words-requires returns)
+    tie.close (tie.spec (λ shift-rows-requires κs. search needs) (λ sub-bytes-requires κs. search needs) (λ xor-words-requires κs. search needs) returns)

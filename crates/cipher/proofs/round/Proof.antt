@@ -4,15 +4,6 @@ use borrow.Author.Needs.{needs}
 use Rattle.cipher.proofs.round.Statement.{statement}
 use Rattle.cipher.proofs.round.Tie as tie
 
-shift-rows-requires : tie.Need-shift-rows-requires
-shift-rows-requires c κs = search needs
-
-sub-bytes-requires : tie.Need-sub-bytes-requires
-sub-bytes-requires c κs = search needs
-
-mix-columns-requires : tie.Need-mix-columns-requires
-mix-columns-requires c κs = search needs
-
 returns : tie.Need-returns
 returns c =
     let a = c .before .before .before .before .before .before .before .args in
@@ -23,4 +14,4 @@ returns c =
 
 pub round-spec : {M : Type 1} → statement M
 round-spec =
-    tie.close (tie.spec shift-rows-requires sub-bytes-requires mix-columns-requires returns)
+    tie.close (tie.spec (λ shift-rows-requires κs. search needs) (λ sub-bytes-requires κs. search needs) (λ mix-columns-requires κs. search needs) returns)

@@ -25,15 +25,6 @@ number-is c = c .format-check .ensures (start c .args .salt .now)
 accepted : (c : tie.Else1) → number (c .before .before .format-check .result) ≡ 0
 accepted c = sym (c .before .number-of .ensures) ∙ c .if1 .left
 
-format-check-requires : tie.Need-format-check-requires
-format-check-requires c κs = search needs
-
-number-of-requires : tie.Need-number-of-requires
-number-of-requires c κs = search needs
-
-same-length : tie.Need-same-length
-same-length c = search needs
-
 returns : tie.Need-returns
 returns c =
     let p = c .before .before in
@@ -41,9 +32,6 @@ returns c =
 
 write-drive-requires : tie.Need-write-drive-requires
 write-drive-requires c κs = sym (number-is (c .before .before .before)) ∙ accepted (c .before)
-
-same-length-2 : tie.Need-same-length-2
-same-length-2 c = search needs
 
 returns-2 : tie.Need-returns-2
 returns-2 c =
@@ -56,10 +44,10 @@ pub format-spec : {M : Type 1} → statement M
 format-spec =
     tie.close
     (tie.spec
-    format-check-requires
-    number-of-requires
-    same-length
+    (λ format-check-requires κs. search needs)
+    (λ number-of-requires κs. search needs)
+    (λ same-length. search needs)
     returns
     write-drive-requires
-    same-length-2
+    (λ same-length-2. search needs)
     returns-2)

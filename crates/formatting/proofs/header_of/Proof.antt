@@ -36,32 +36,11 @@ key-most c = omega (arith, c .profile-at .ensures .key-is, lawful-row rows rows-
 name-widths : (c : tie.After-profile-at) → Widths (names (c .profile-at .result)) nameWidths
 name-widths c = (refl, (refl, (search needs, (search needs, (search needs, tt)))))
 
-profile-at-requires : tie.Need-profile-at-requires
-profile-at-requires c κs = search needs
-
-slice-aggregate-pbkdf2-sha1 : tie.Need-slice-aggregate-pbkdf2-sha1
-slice-aggregate-pbkdf2-sha1 c = search needs
-
-pbkdf2-sha1-requires : tie.Need-pbkdf2-sha1-requires
-pbkdf2-sha1-requires c κs = search needs
-
-slice-aggregate-put-names : tie.Need-slice-aggregate-put-names
-slice-aggregate-put-names c = search needs
-
-put-names-requires : tie.Need-put-names-requires
-put-names-requires c κs = search needs
-
-slice-aggregate-put-numbers : tie.Need-slice-aggregate-put-numbers
-slice-aggregate-put-numbers c = search needs
-
 put-numbers-requires : tie.Need-put-numbers-requires
 put-numbers-requires c κs =
     let n = c .before .before .before in
     let p = found n in
     (n .put-names .kept .0, start p .pre .1, key-most p, start p .pre .4)
-
-slice-aggregate-put-slots : tie.Need-slice-aggregate-put-slots
-slice-aggregate-put-slots c = search needs
 
 put-slots-requires : tie.Need-put-slots-requires
 put-slots-requires c κs =
@@ -83,13 +62,13 @@ pub header-of-spec : {M : Type 1} → statement M
 header-of-spec =
     tie.close
     (tie.spec
-    profile-at-requires
-    slice-aggregate-pbkdf2-sha1
-    pbkdf2-sha1-requires
-    slice-aggregate-put-names
-    put-names-requires
-    slice-aggregate-put-numbers
+    (λ profile-at-requires κs. search needs)
+    (λ slice-aggregate-pbkdf2-sha1. search needs)
+    (λ pbkdf2-sha1-requires κs. search needs)
+    (λ slice-aggregate-put-names. search needs)
+    (λ put-names-requires κs. search needs)
+    (λ slice-aggregate-put-numbers. search needs)
     put-numbers-requires
-    slice-aggregate-put-slots
+    (λ slice-aggregate-put-slots. search needs)
     put-slots-requires
     returns)

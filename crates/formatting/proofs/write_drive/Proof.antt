@@ -35,34 +35,19 @@ cast-payload-start c = omega (arith, fits (c .before .before .before) .key-most)
 payload-start-requires : tie.Need-payload-start-requires
 payload-start-requires c κs = let f = fits (c .before .before .before) in (f .stripes-most, f .key-most)
 
-cast-end : tie.Need-cast-end
-cast-end c = search needs
-
-mul-end : tie.Need-mul-end
-mul-end c = search needs
-
 slice-relend-prefix-clear : tie.Need-slice-relend-prefix-clear
 slice-relend-prefix-clear c = omega (arith, room (c .before))
 
 slice-aggregate-clear : tie.Need-slice-aggregate-clear
 slice-aggregate-clear c = sym (length-take-le _ _ (slice-relend-prefix-clear (c .before)))
 
-clear-requires : tie.Need-clear-requires
-clear-requires c κs = search needs
-
 header-of-requires : tie.Need-header-of-requires
 header-of-requires c κs =
     let f = fits (start (laid (c .before .before))) in
     (f .profile-known, f .stripes-most, f .key-most, f .count-least, f .uuid-is)
 
-slice-aggregate-copy-into : tie.Need-slice-aggregate-copy-into
-slice-aggregate-copy-into c = search needs
-
 copy-into-requires : tie.Need-copy-into-requires
 copy-into-requires c κs = omega (arith, fits (start (laid (c .before .before .before .before .before))) .size)
-
-same-length : tie.Need-same-length
-same-length c = search needs
 
 returns : tie.Need-returns
 returns c =
@@ -80,13 +65,13 @@ write-drive-spec =
     (tie.spec
     cast-payload-start
     payload-start-requires
-    cast-end
-    mul-end
+    (λ cast-end. search needs)
+    (λ mul-end. search needs)
     slice-relend-prefix-clear
     slice-aggregate-clear
-    clear-requires
+    (λ clear-requires κs. search needs)
     header-of-requires
-    slice-aggregate-copy-into
+    (λ slice-aggregate-copy-into. search needs)
     copy-into-requires
-    same-length
+    (λ same-length. search needs)
     returns)

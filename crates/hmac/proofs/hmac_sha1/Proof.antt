@@ -5,12 +5,6 @@ use Rattle.hmac.proofs.HmacLaws.{hmac-keyed}
 use Rattle.hmac.proofs.hmac_sha1.Statement.{statement}
 use Rattle.hmac.proofs.hmac_sha1.Tie as tie
 
-prepare-requires : tie.Need-prepare-requires
-prepare-requires c κs = search needs
-
-hmac-with-requires : tie.Need-hmac-with-requires
-hmac-with-requires c κs = search needs
-
 returns : tie.Need-returns
 returns c =
     let a = c .before .before .before .before .args in
@@ -18,4 +12,4 @@ returns c =
     c .hmac-with .ensures ∙ hmac-keyed (a .key .now) (a .m .now) (k .result .inner) (k .result .outer) (k .ensures .0) (k .ensures .1)
 
 pub hmac-sha1-spec : {M : Type 1} → statement M
-hmac-sha1-spec = tie.close (tie.spec prepare-requires hmac-with-requires returns)
+hmac-sha1-spec = tie.close (tie.spec (λ prepare-requires κs. search needs) (λ hmac-with-requires κs. search needs) returns)

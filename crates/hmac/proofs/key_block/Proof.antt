@@ -7,18 +7,6 @@ use Rattle.hmac.proofs.key_block.Statement.{statement}
 use Rattle.hmac.proofs.key_block.Tie as tie
 use Rattle.octets.specs.Octets.{padded}
 
-sha1-requires : tie.Need-sha1-requires
-sha1-requires c κs = search needs
-
-slice-aggregate-zero-pad : tie.Need-slice-aggregate-zero-pad
-slice-aggregate-zero-pad c = search needs
-
-zero-pad-requires : tie.Need-zero-pad-requires
-zero-pad-requires c κs = search needs
-
-zero-pad-requires-2 : tie.Need-zero-pad-requires-2
-zero-pad-requires-2 c κs = search needs
-
 returns : tie.Need-returns
 returns c =
     let k = c .before .before .before .before .before .args .key .now in
@@ -33,9 +21,9 @@ pub key-block-spec : {M : Type 1} → statement M
 key-block-spec =
     tie.close
     (tie.spec
-    sha1-requires
-    slice-aggregate-zero-pad
-    zero-pad-requires
-    zero-pad-requires-2
+    (λ sha1-requires κs. search needs)
+    (λ slice-aggregate-zero-pad. search needs)
+    (λ zero-pad-requires κs. search needs)
+    (λ zero-pad-requires-2 κs. search needs)
     returns
     returns-2)

@@ -10,12 +10,6 @@ use Rattle.keyslot.proofs.AreaLaws.{candidateOf-is}
 use Rattle.keyslot.proofs.candidate.Statement.{statement}
 use Rattle.keyslot.proofs.candidate.Tie as tie
 
-slot-key-requires : tie.Need-slot-key-requires
-slot-key-requires c κs = search needs
-
-array-share-prefix-k : tie.Need-array-share-prefix-k
-array-share-prefix-k c = search needs
-
 slice-aggregate-expand : tie.Need-slice-aggregate-expand
 slice-aggregate-expand c =
     let k = c .before .before .slot-key .result in
@@ -30,12 +24,6 @@ expand-requires c κs =
     let d = c .before .before .before .before .before .before .before .args .d .now in
     let e = length-take-le (length d) k (omega arith) in
     (omega (arith, e), omega (arith, e), omega (arith, e))
-
-merge-units-requires : tie.Need-merge-units-requires
-merge-units-requires c κs = search needs
-
-same-length : tie.Need-same-length
-same-length c = search needs
 
 returns : tie.Need-returns
 returns c =
@@ -53,10 +41,10 @@ pub candidate-spec : {M : Type 1} → statement M
 candidate-spec =
     tie.close
     (tie.spec
-    slot-key-requires
-    array-share-prefix-k
+    (λ slot-key-requires κs. search needs)
+    (λ array-share-prefix-k. search needs)
     slice-aggregate-expand
     expand-requires
-    merge-units-requires
-    same-length
+    (λ merge-units-requires κs. search needs)
+    (λ same-length. search needs)
     returns)

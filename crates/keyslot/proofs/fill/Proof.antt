@@ -16,12 +16,6 @@ split-into-requires c κs =
     let L = length (s .args .key .now) in
     (s .pre .0, sym (s .pre .1) ∙ sym (last-stripe (s .args .n) L (s .pre .0)), s .pre .2, omega arith)
 
-slot-key-requires : tie.Need-slot-key-requires
-slot-key-requires c κs = search needs
-
-array-share-prefix-k : tie.Need-array-share-prefix-k
-array-share-prefix-k c = search needs
-
 slice-aggregate-encrypt-all : tie.Need-slice-aggregate-encrypt-all
 slice-aggregate-encrypt-all c =
     let key = c .before .before .before .before .before .before .before .before .before .before .before .before .args .key .now in
@@ -40,9 +34,6 @@ encrypt-all-requires c κs =
     let b : length (s .args .area .now) % 16 ≡ 0 = whole-blocks (s .args .n) L (length (s .args .area .now)) (s .pre .1) (omega arith) in
     (omega (arith, a, b), search needs, omega (arith, e), omega (arith, e), omega (arith, e))
 
-same-length : tie.Need-same-length
-same-length c = search needs
-
 returns : tie.Need-returns
 returns c =
     let a = c .before .before .before .before .before .before .before .before .before .before .before .before .before .before .before .args in
@@ -57,9 +48,9 @@ fill-spec =
     tie.close
     (tie.spec
     split-into-requires
-    slot-key-requires
-    array-share-prefix-k
+    (λ slot-key-requires κs. search needs)
+    (λ array-share-prefix-k. search needs)
     slice-aggregate-encrypt-all
     encrypt-all-requires
-    same-length
+    (λ same-length. search needs)
     returns)

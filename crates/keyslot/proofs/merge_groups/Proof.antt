@@ -31,12 +31,6 @@ Inv-loop d₀ area n ks vs rounds per len b₀ at₀ left₀ d b at left =
 abbrev μ-loop : tie.MeasureT-loop
 μ-loop d₀ area n ks vs rounds per len b₀ at₀ left₀ d b at left = len - at
 
-clear-requires : tie.Need-clear-requires Inv-loop μ-loop
-clear-requires c κs = search needs
-
-per-group-requires : tie.Need-per-group-requires Inv-loop μ-loop
-per-group-requires c κs = search needs
-
 loop-holds : tie.Need-loop-holds Inv-loop μ-loop
 loop-holds c =
     let s = c .before .before .before .before .before .before .before .before .before in
@@ -45,24 +39,6 @@ loop-holds c =
     let b : s .args .n * L ≡ length (s .args .area .now) = ap (λ (k : ℕ). s .args .n * k) e ∙ s .pre .1 in
     let m : 1 * L ≤ s .args .n * L = mul-le-mul-right L (s .pre .0) in
     (omega arith, omega arith, omega arith, omega arith, refl, length-replicate {A = ℕ} 16384 0, λ f g. refl)
-
-sub-loop : tie.Need-sub-loop Inv-loop μ-loop
-sub-loop c = search needs
-
-add-e : tie.Need-add-e Inv-loop μ-loop
-add-e c = search needs
-
-slice-aggregate-whole-group : tie.Need-slice-aggregate-whole-group Inv-loop μ-loop
-slice-aggregate-whole-group c = search needs
-
-sub-whole-group : tie.Need-sub-whole-group Inv-loop μ-loop
-sub-whole-group c = search needs
-
-part-whole-group-start : tie.Need-part-whole-group-start Inv-loop μ-loop
-part-whole-group-start c = search needs
-
-part-whole-group-end : tie.Need-part-whole-group-end Inv-loop μ-loop
-part-whole-group-end c = search needs
 
 whole-group-requires : tie.Need-whole-group-requires Inv-loop μ-loop
 unfolding part
@@ -81,9 +57,6 @@ sub-left c =
     let w = c .before .before .before .before .before .before .before .before in
     let h = more-left (length (w .before .before .before .before .clear .last .0)) (w .before .per-group .result) (w .loop .left) (w .before .per-group .ensures) (omega arith) in
     omega (arith, h)
-
-loop-less : tie.Need-loop-less Inv-loop μ-loop
-loop-less c = search needs
 
 loop-again : tie.Need-loop-again Inv-loop μ-loop
 unfolding part
@@ -109,29 +82,11 @@ loop-again c =
           (y .ensures f g),
     )
 
-sub-k : tie.Need-sub-k Inv-loop μ-loop
-sub-k c = search needs
-
-array-borrow-prefix-b : tie.Need-array-borrow-prefix-b Inv-loop μ-loop
-array-borrow-prefix-b c = search needs
-
 slice-aggregate-last-group : tie.Need-slice-aggregate-last-group Inv-loop μ-loop
 slice-aggregate-last-group c =
     let l = c .before .before .before .loop in
     let n : length (l .b) ≡ 16384 = l .inv .5 in
     sym (length-take-le _ (l .b) (omega arith))
-
-sub-last-group : tie.Need-sub-last-group Inv-loop μ-loop
-sub-last-group c = search needs
-
-part-last-group-start : tie.Need-part-last-group-start Inv-loop μ-loop
-part-last-group-start c = search needs
-
-part-last-group-end : tie.Need-part-last-group-end Inv-loop μ-loop
-part-last-group-end c = search needs
-
-sub-last-group-2 : tie.Need-sub-last-group-2 Inv-loop μ-loop
-sub-last-group-2 c = search needs
 
 last-group-requires : tie.Need-last-group-requires Inv-loop μ-loop
 unfolding part
@@ -145,9 +100,6 @@ last-group-requires c κs =
     let b : (l .left - 1) * length (l .d) + length (l .d) ≡ N - l .at = last-stripe (l .left) (length (l .d)) (l .inv .2) ∙ ap (λ (n : ℕ). l .left * n) (l .inv .4) ∙ l .inv .3 in
     let m : N % 16 ≡ 0 = whole-blocks (s .args .n) (length (s .args .d .now)) N (s .pre .1) (s .pre .4) in
     (length-take-le (N - l .at) (l .b) (omega arith) ∙ sym k, omega (arith, k, m), omega (arith, k), s .pre .5, s .pre .6, k ∙ sym b, omega arith)
-
-same-length : tie.Need-same-length Inv-loop μ-loop
-same-length c = search needs
 
 returns : tie.Need-returns Inv-loop μ-loop
 returns c =
@@ -165,26 +117,26 @@ merge-groups-spec =
     (tie.spec
     Inv-loop
     μ-loop
-    clear-requires
-    per-group-requires
+    (λ clear-requires κs. search needs)
+    (λ per-group-requires κs. search needs)
     loop-holds
-    sub-loop
-    add-e
-    slice-aggregate-whole-group
-    sub-whole-group
-    part-whole-group-start
-    part-whole-group-end
+    (λ sub-loop. search needs)
+    (λ add-e. search needs)
+    (λ slice-aggregate-whole-group. search needs)
+    (λ sub-whole-group. search needs)
+    (λ part-whole-group-start. search needs)
+    (λ part-whole-group-end. search needs)
     whole-group-requires
     sub-left
-    loop-less
+    (λ loop-less. search needs)
     loop-again
-    sub-k
-    array-borrow-prefix-b
+    (λ sub-k. search needs)
+    (λ array-borrow-prefix-b. search needs)
     slice-aggregate-last-group
-    sub-last-group
-    part-last-group-start
-    part-last-group-end
-    sub-last-group-2
+    (λ sub-last-group. search needs)
+    (λ part-last-group-start. search needs)
+    (λ part-last-group-end. search needs)
+    (λ sub-last-group-2. search needs)
     last-group-requires
-    same-length
+    (λ same-length. search needs)
     returns)

@@ -9,26 +9,11 @@ use borrow.Author.Needs.{needs}
 use Rattle.keyslot.proofs.merge_sliced.Statement.{statement}
 use Rattle.keyslot.proofs.merge_sliced.Tie as tie
 
-slice-aggregate-slice-keys : tie.Need-slice-aggregate-slice-keys
-slice-aggregate-slice-keys c = search needs
-
-add-slice-keys : tie.Need-add-slice-keys
-add-slice-keys c = search needs
-
 slice-keys-requires : tie.Need-slice-keys-requires
 slice-keys-requires c κs =
     let s = c .before .before .before .before .before in
     let l : length (s .args .keys .tweaks) ≡ 240 = search needs in
     (omega (arith, s .pre .6 .room), omega (arith, s .pre .6 .room))
-
-slice-aggregate-merge-groups : tie.Need-slice-aggregate-merge-groups
-slice-aggregate-merge-groups c = search needs
-
-merge-groups-requires : tie.Need-merge-groups-requires
-merge-groups-requires c κs = search needs
-
-same-length : tie.Need-same-length
-same-length c = search needs
 
 returns : tie.Need-returns
 returns c =
@@ -40,10 +25,10 @@ pub merge-sliced-spec : {M : Type 1} → statement M
 merge-sliced-spec =
     tie.close
     (tie.spec
-    slice-aggregate-slice-keys
-    add-slice-keys
+    (λ slice-aggregate-slice-keys. search needs)
+    (λ add-slice-keys. search needs)
     slice-keys-requires
-    slice-aggregate-merge-groups
-    merge-groups-requires
-    same-length
+    (λ slice-aggregate-merge-groups. search needs)
+    (λ merge-groups-requires κs. search needs)
+    (λ same-length. search needs)
     returns)

@@ -14,9 +14,6 @@ use Rattle.keyslot.proofs.slot_key.Tie as tie
 abbrev blank : List ℕ
 blank = replicate 64 0
 
-array-borrow-prefix-k : tie.Need-array-borrow-prefix-k
-array-borrow-prefix-k c = search needs
-
 slice-aggregate-pbkdf2-sha1 : tie.Need-slice-aggregate-pbkdf2-sha1
 slice-aggregate-pbkdf2-sha1 c =
     let a = c .before .before .before .args in
@@ -38,4 +35,4 @@ returns c =
 pub slot-key-spec : {M : Type 1} → statement M
 slot-key-spec =
     tie.close
-    (tie.spec array-borrow-prefix-k slice-aggregate-pbkdf2-sha1 pbkdf2-sha1-requires returns)
+    (tie.spec (λ array-borrow-prefix-k. search needs) slice-aggregate-pbkdf2-sha1 pbkdf2-sha1-requires returns)

@@ -4,42 +4,6 @@ use Rattle.lanes.proofs.LanesLaws.{each}
 use Rattle.lanes.proofs.add_word.Statement.{statement}
 use Rattle.lanes.proofs.add_word.Tie as tie
 
-array-read-wrapping-add-u32 : tie.Need-array-read-wrapping-add-u32
-array-read-wrapping-add-u32 c = search needs
-
-array-read-wrapping-add-u32-2 : tie.Need-array-read-wrapping-add-u32-2
-array-read-wrapping-add-u32-2 c = search needs
-
-wrapping-add-u32-requires : tie.Need-wrapping-add-u32-requires
-wrapping-add-u32-requires c κs = search needs
-
-array-read-wrapping-add-u32-3 : tie.Need-array-read-wrapping-add-u32-3
-array-read-wrapping-add-u32-3 c = search needs
-
-array-read-wrapping-add-u32-4 : tie.Need-array-read-wrapping-add-u32-4
-array-read-wrapping-add-u32-4 c = search needs
-
-wrapping-add-u32-requires-2 : tie.Need-wrapping-add-u32-requires-2
-wrapping-add-u32-requires-2 c κs = search needs
-
-array-read-wrapping-add-u32-5 : tie.Need-array-read-wrapping-add-u32-5
-array-read-wrapping-add-u32-5 c = search needs
-
-array-read-wrapping-add-u32-6 : tie.Need-array-read-wrapping-add-u32-6
-array-read-wrapping-add-u32-6 c = search needs
-
-wrapping-add-u32-requires-3 : tie.Need-wrapping-add-u32-requires-3
-wrapping-add-u32-requires-3 c κs = search needs
-
-array-read-wrapping-add-u32-7 : tie.Need-array-read-wrapping-add-u32-7
-array-read-wrapping-add-u32-7 c = search needs
-
-array-read-wrapping-add-u32-8 : tie.Need-array-read-wrapping-add-u32-8
-array-read-wrapping-add-u32-8 c = search needs
-
-wrapping-add-u32-requires-4 : tie.Need-wrapping-add-u32-requires-4
-wrapping-add-u32-requires-4 c κs = search needs
-
 returns : tie.Need-returns
 returns c = each _ (c .before .before .before .wrapping-add-u32 .ensures) (c .before .before .wrapping-add-u322 .ensures) (c .before .wrapping-add-u323 .ensures) (c .wrapping-add-u324 .ensures)
 
@@ -47,16 +11,16 @@ pub add-word-spec : {M : Type 1} → statement M
 add-word-spec =
     tie.close
     (tie.spec
-    array-read-wrapping-add-u32
-    array-read-wrapping-add-u32-2
-    wrapping-add-u32-requires
-    array-read-wrapping-add-u32-3
-    array-read-wrapping-add-u32-4
-    wrapping-add-u32-requires-2
-    array-read-wrapping-add-u32-5
-    array-read-wrapping-add-u32-6
-    wrapping-add-u32-requires-3
-    array-read-wrapping-add-u32-7
-    array-read-wrapping-add-u32-8
-    wrapping-add-u32-requires-4
+    (λ array-read-wrapping-add-u32. search needs)
+    (λ array-read-wrapping-add-u32-2. search needs)
+    (λ wrapping-add-u32-requires κs. search needs)
+    (λ array-read-wrapping-add-u32-3. search needs)
+    (λ array-read-wrapping-add-u32-4. search needs)
+    (λ wrapping-add-u32-requires-2 κs. search needs)
+    (λ array-read-wrapping-add-u32-5. search needs)
+    (λ array-read-wrapping-add-u32-6. search needs)
+    (λ wrapping-add-u32-requires-3 κs. search needs)
+    (λ array-read-wrapping-add-u32-7. search needs)
+    (λ array-read-wrapping-add-u32-8. search needs)
+    (λ wrapping-add-u32-requires-4 κs. search needs)
     returns)

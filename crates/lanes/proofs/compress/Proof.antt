@@ -6,54 +6,6 @@ use Rattle.lanes.proofs.LanesLaws.{added-lane}
 use Rattle.lanes.proofs.compress.Statement.{statement}
 use Rattle.lanes.proofs.compress.Tie as tie
 
-all-rounds-requires : tie.Need-all-rounds-requires
-all-rounds-requires c κs = search needs
-
-array-copy-out-add-word : tie.Need-array-copy-out-add-word
-array-copy-out-add-word c = search needs
-
-array-copy-out-add-word-2 : tie.Need-array-copy-out-add-word-2
-array-copy-out-add-word-2 c = search needs
-
-add-word-requires : tie.Need-add-word-requires
-add-word-requires c κs = search needs
-
-array-copy-out-add-word-3 : tie.Need-array-copy-out-add-word-3
-array-copy-out-add-word-3 c = search needs
-
-array-copy-out-add-word-4 : tie.Need-array-copy-out-add-word-4
-array-copy-out-add-word-4 c = search needs
-
-add-word-requires-2 : tie.Need-add-word-requires-2
-add-word-requires-2 c κs = search needs
-
-array-copy-out-add-word-5 : tie.Need-array-copy-out-add-word-5
-array-copy-out-add-word-5 c = search needs
-
-array-copy-out-add-word-6 : tie.Need-array-copy-out-add-word-6
-array-copy-out-add-word-6 c = search needs
-
-add-word-requires-3 : tie.Need-add-word-requires-3
-add-word-requires-3 c κs = search needs
-
-array-copy-out-add-word-7 : tie.Need-array-copy-out-add-word-7
-array-copy-out-add-word-7 c = search needs
-
-array-copy-out-add-word-8 : tie.Need-array-copy-out-add-word-8
-array-copy-out-add-word-8 c = search needs
-
-add-word-requires-4 : tie.Need-add-word-requires-4
-add-word-requires-4 c κs = search needs
-
-array-copy-out-add-word-9 : tie.Need-array-copy-out-add-word-9
-array-copy-out-add-word-9 c = search needs
-
-array-copy-out-add-word-10 : tie.Need-array-copy-out-add-word-10
-array-copy-out-add-word-10 c = search needs
-
-add-word-requires-5 : tie.Need-add-word-requires-5
-add-word-requires-5 c κs = search needs
-
 returns : tie.Need-returns
 returns c =
     let at = c .before .before .before .before .before .before .before .before .before .before .before .before in
@@ -74,20 +26,20 @@ pub compress-spec : {M : Type 1} → statement M
 compress-spec =
     tie.close
     (tie.spec
-    all-rounds-requires
-    array-copy-out-add-word
-    array-copy-out-add-word-2
-    add-word-requires
-    array-copy-out-add-word-3
-    array-copy-out-add-word-4
-    add-word-requires-2
-    array-copy-out-add-word-5
-    array-copy-out-add-word-6
-    add-word-requires-3
-    array-copy-out-add-word-7
-    array-copy-out-add-word-8
-    add-word-requires-4
-    array-copy-out-add-word-9
-    array-copy-out-add-word-10
-    add-word-requires-5
+    (λ all-rounds-requires κs. search needs)
+    (λ array-copy-out-add-word. search needs)
+    (λ array-copy-out-add-word-2. search needs)
+    (λ add-word-requires κs. search needs)
+    (λ array-copy-out-add-word-3. search needs)
+    (λ array-copy-out-add-word-4. search needs)
+    (λ add-word-requires-2 κs. search needs)
+    (λ array-copy-out-add-word-5. search needs)
+    (λ array-copy-out-add-word-6. search needs)
+    (λ add-word-requires-3 κs. search needs)
+    (λ array-copy-out-add-word-7. search needs)
+    (λ array-copy-out-add-word-8. search needs)
+    (λ add-word-requires-4 κs. search needs)
+    (λ array-copy-out-add-word-9. search needs)
+    (λ array-copy-out-add-word-10. search needs)
+    (λ add-word-requires-5 κs. search needs)
     returns)

@@ -6,66 +6,6 @@ use Rattle.lanes.proofs.LanesLaws.{five}
 use Rattle.lanes.proofs.gather.Statement.{statement}
 use Rattle.lanes.proofs.gather.Tie as tie
 
-array-read-t11 : tie.Need-array-read-t11
-array-read-t11 c = search needs
-
-array-read-t14 : tie.Need-array-read-t14
-array-read-t14 c = search needs
-
-array-read-t17 : tie.Need-array-read-t17
-array-read-t17 c = search needs
-
-array-read-t20 : tie.Need-array-read-t20
-array-read-t20 c = search needs
-
-array-read-t24 : tie.Need-array-read-t24
-array-read-t24 c = search needs
-
-array-read-t27 : tie.Need-array-read-t27
-array-read-t27 c = search needs
-
-array-read-t30 : tie.Need-array-read-t30
-array-read-t30 c = search needs
-
-array-read-t33 : tie.Need-array-read-t33
-array-read-t33 c = search needs
-
-array-read-t37 : tie.Need-array-read-t37
-array-read-t37 c = search needs
-
-array-read-t40 : tie.Need-array-read-t40
-array-read-t40 c = search needs
-
-array-read-t43 : tie.Need-array-read-t43
-array-read-t43 c = search needs
-
-array-read-t46 : tie.Need-array-read-t46
-array-read-t46 c = search needs
-
-array-read-t50 : tie.Need-array-read-t50
-array-read-t50 c = search needs
-
-array-read-t53 : tie.Need-array-read-t53
-array-read-t53 c = search needs
-
-array-read-t56 : tie.Need-array-read-t56
-array-read-t56 c = search needs
-
-array-read-t59 : tie.Need-array-read-t59
-array-read-t59 c = search needs
-
-array-read-t63 : tie.Need-array-read-t63
-array-read-t63 c = search needs
-
-array-read-t66 : tie.Need-array-read-t66
-array-read-t66 c = search needs
-
-array-read-t69 : tie.Need-array-read-t69
-array-read-t69 c = search needs
-
-array-read-t72 : tie.Need-array-read-t72
-array-read-t72 c = search needs
-
 returns : tie.Need-returns
 returns c =
     let la : length (c .args .t1) ≡ 5 = search needs in
@@ -78,24 +18,24 @@ pub gather-spec : {M : Type 1} → statement M
 gather-spec =
     tie.close
     (tie.spec
-    array-read-t11
-    array-read-t14
-    array-read-t17
-    array-read-t20
-    array-read-t24
-    array-read-t27
-    array-read-t30
-    array-read-t33
-    array-read-t37
-    array-read-t40
-    array-read-t43
-    array-read-t46
-    array-read-t50
-    array-read-t53
-    array-read-t56
-    array-read-t59
-    array-read-t63
-    array-read-t66
-    array-read-t69
-    array-read-t72
+    (λ array-read-t11. search needs)
+    (λ array-read-t14. search needs)
+    (λ array-read-t17. search needs)
+    (λ array-read-t20. search needs)
+    (λ array-read-t24. search needs)
+    (λ array-read-t27. search needs)
+    (λ array-read-t30. search needs)
+    (λ array-read-t33. search needs)
+    (λ array-read-t37. search needs)
+    (λ array-read-t40. search needs)
+    (λ array-read-t43. search needs)
+    (λ array-read-t46. search needs)
+    (λ array-read-t50. search needs)
+    (λ array-read-t53. search needs)
+    (λ array-read-t56. search needs)
+    (λ array-read-t59. search needs)
+    (λ array-read-t63. search needs)
+    (λ array-read-t66. search needs)
+    (λ array-read-t69. search needs)
+    (λ array-read-t72. search needs)
     returns)

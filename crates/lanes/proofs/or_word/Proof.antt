@@ -5,30 +5,6 @@ use Rattle.lanes.proofs.LanesLaws.{each}
 use Rattle.lanes.proofs.or_word.Statement.{statement}
 use Rattle.lanes.proofs.or_word.Tie as tie
 
-array-read-t7 : tie.Need-array-read-t7
-array-read-t7 c = search needs
-
-array-read-t10 : tie.Need-array-read-t10
-array-read-t10 c = search needs
-
-array-read-t14 : tie.Need-array-read-t14
-array-read-t14 c = search needs
-
-array-read-t17 : tie.Need-array-read-t17
-array-read-t17 c = search needs
-
-array-read-t21 : tie.Need-array-read-t21
-array-read-t21 c = search needs
-
-array-read-t24 : tie.Need-array-read-t24
-array-read-t24 c = search needs
-
-array-read-t28 : tie.Need-array-read-t28
-array-read-t28 c = search needs
-
-array-read-t31 : tie.Need-array-read-t31
-array-read-t31 c = search needs
-
 returns : tie.Need-returns
 returns c = each _ refl refl refl refl
 
@@ -36,12 +12,12 @@ pub or-word-spec : {M : Type 1} → statement M
 or-word-spec =
     tie.close
     (tie.spec
-    array-read-t7
-    array-read-t10
-    array-read-t14
-    array-read-t17
-    array-read-t21
-    array-read-t24
-    array-read-t28
-    array-read-t31
+    (λ array-read-t7. search needs)
+    (λ array-read-t10. search needs)
+    (λ array-read-t14. search needs)
+    (λ array-read-t17. search needs)
+    (λ array-read-t21. search needs)
+    (λ array-read-t24. search needs)
+    (λ array-read-t28. search needs)
+    (λ array-read-t31. search needs)
     returns)

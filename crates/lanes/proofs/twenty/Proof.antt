@@ -20,30 +20,6 @@ Inv-loop w₀ q c v₀ y₀ j₀ w v y j =
 abbrev μ-loop : tie.MeasureT-loop
 μ-loop w₀ q c v₀ y₀ j₀ w v y j = 20 - j
 
-round-constant-requires : tie.Need-round-constant-requires Inv-loop μ-loop
-round-constant-requires c κs = search needs
-
-array-copy-out-t16 : tie.Need-array-copy-out-t16 Inv-loop μ-loop
-array-copy-out-t16 c = search needs
-
-array-copy-out-t19 : tie.Need-array-copy-out-t19 Inv-loop μ-loop
-array-copy-out-t19 c = search needs
-
-array-copy-out-t22 : tie.Need-array-copy-out-t22 Inv-loop μ-loop
-array-copy-out-t22 c = search needs
-
-array-copy-out-or-word : tie.Need-array-copy-out-or-word Inv-loop μ-loop
-array-copy-out-or-word c = search needs
-
-array-copy-out-or-word-2 : tie.Need-array-copy-out-or-word-2 Inv-loop μ-loop
-array-copy-out-or-word-2 c = search needs
-
-mul-taps-at : tie.Need-mul-taps-at Inv-loop μ-loop
-mul-taps-at c = search needs
-
-taps-at-requires : tie.Need-taps-at-requires Inv-loop μ-loop
-taps-at-requires c κs = search needs
-
 loop-holds : tie.Need-loop-holds Inv-loop μ-loop
 unfolding turns
 loop-holds c =
@@ -54,45 +30,6 @@ loop-holds c =
       λ i h. refl,
       λ i h. c .taps-at .ensures i h ∙ ap (λ (n : ℕ). taps (lane i (a .w .now)) (16 + n)) (sym (add-zero (20 * a .q))),
     )
-
-mul-t : tie.Need-mul-t Inv-loop μ-loop
-mul-t c = search needs
-
-add-t : tie.Need-add-t Inv-loop μ-loop
-add-t c = search needs
-
-mul-x : tie.Need-mul-x Inv-loop μ-loop
-mul-x c = search needs
-
-element-copy-out-x : tie.Need-element-copy-out-x Inv-loop μ-loop
-element-copy-out-x c = search needs
-
-rotl1-requires : tie.Need-rotl1-requires Inv-loop μ-loop
-rotl1-requires c κs = search needs
-
-add-t32 : tie.Need-add-t32 Inv-loop μ-loop
-add-t32 c = search needs
-
-mul-t36 : tie.Need-mul-t36 Inv-loop μ-loop
-mul-t36 c = search needs
-
-element-set-from-w : tie.Need-element-set-from-w Inv-loop μ-loop
-element-set-from-w c = search needs
-
-add-taps-at : tie.Need-add-taps-at Inv-loop μ-loop
-add-taps-at c = search needs
-
-taps-at-requires-2 : tie.Need-taps-at-requires-2 Inv-loop μ-loop
-taps-at-requires-2 c κs = search needs
-
-step-requires : tie.Need-step-requires Inv-loop μ-loop
-step-requires c κs = search needs
-
-add-j : tie.Need-add-j Inv-loop μ-loop
-add-j c = search needs
-
-loop-less : tie.Need-loop-less Inv-loop μ-loop
-loop-less c = search needs
 
 loop-again : tie.Need-loop-again Inv-loop μ-loop
 loop-again c =
@@ -116,27 +53,6 @@ loop-again c =
       λ i h. n .ensures i h ∙ ap (λ (x : ℕ). taps (lane i w) (16 + x)) m,
     )
 
-array-copy-out-t16-2 : tie.Need-array-copy-out-t16-2 Inv-loop μ-loop
-array-copy-out-t16-2 c = search needs
-
-array-copy-out-t19-2 : tie.Need-array-copy-out-t19-2 Inv-loop μ-loop
-array-copy-out-t19-2 c = search needs
-
-array-copy-out-or-word-3 : tie.Need-array-copy-out-or-word-3 Inv-loop μ-loop
-array-copy-out-or-word-3 c = search needs
-
-array-copy-out-or-word-4 : tie.Need-array-copy-out-or-word-4 Inv-loop μ-loop
-array-copy-out-or-word-4 c = search needs
-
-or-word-requires : tie.Need-or-word-requires Inv-loop μ-loop
-or-word-requires c κs = search needs
-
-array-copy-out-t51 : tie.Need-array-copy-out-t51 Inv-loop μ-loop
-array-copy-out-t51 c = search needs
-
-array-copy-out-t54 : tie.Need-array-copy-out-t54 Inv-loop μ-loop
-array-copy-out-t54 c = search needs
-
 returns : tie.Need-returns Inv-loop μ-loop
 returns c =
     let b = c .before .before .or-word in
@@ -158,34 +74,34 @@ twenty-spec =
     (tie.spec
     Inv-loop
     μ-loop
-    round-constant-requires
-    array-copy-out-t16
-    array-copy-out-t19
-    array-copy-out-t22
-    array-copy-out-or-word
-    array-copy-out-or-word-2
-    mul-taps-at
-    taps-at-requires
+    (λ round-constant-requires κs. search needs)
+    (λ array-copy-out-t16. search needs)
+    (λ array-copy-out-t19. search needs)
+    (λ array-copy-out-t22. search needs)
+    (λ array-copy-out-or-word. search needs)
+    (λ array-copy-out-or-word-2. search needs)
+    (λ mul-taps-at. search needs)
+    (λ taps-at-requires κs. search needs)
     loop-holds
-    mul-t
-    add-t
-    mul-x
-    element-copy-out-x
-    rotl1-requires
-    add-t32
-    mul-t36
-    element-set-from-w
-    add-taps-at
-    taps-at-requires-2
-    step-requires
-    add-j
-    loop-less
+    (λ mul-t. search needs)
+    (λ add-t. search needs)
+    (λ mul-x. search needs)
+    (λ element-copy-out-x. search needs)
+    (λ rotl1-requires κs. search needs)
+    (λ add-t32. search needs)
+    (λ mul-t36. search needs)
+    (λ element-set-from-w. search needs)
+    (λ add-taps-at. search needs)
+    (λ taps-at-requires-2 κs. search needs)
+    (λ step-requires κs. search needs)
+    (λ add-j. search needs)
+    (λ loop-less. search needs)
     loop-again
-    array-copy-out-t16-2
-    array-copy-out-t19-2
-    array-copy-out-or-word-3
-    array-copy-out-or-word-4
-    or-word-requires
-    array-copy-out-t51
-    array-copy-out-t54
+    (λ array-copy-out-t16-2. search needs)
+    (λ array-copy-out-t19-2. search needs)
+    (λ array-copy-out-or-word-3. search needs)
+    (λ array-copy-out-or-word-4. search needs)
+    (λ or-word-requires κs. search needs)
+    (λ array-copy-out-t51. search needs)
+    (λ array-copy-out-t54. search needs)
     returns)

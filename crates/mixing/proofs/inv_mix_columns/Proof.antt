@@ -4,12 +4,6 @@ use borrow.Author.Needs.{needs}
 use Rattle.mixing.proofs.inv_mix_columns.Statement.{statement}
 use Rattle.mixing.proofs.inv_mix_columns.Tie as tie
 
-premix-columns-requires : tie.Need-premix-columns-requires
-premix-columns-requires c κs = search needs
-
-mix-columns-requires : tie.Need-mix-columns-requires
-mix-columns-requires c κs = search needs
-
 returns : tie.Need-returns
 returns c =
     let x = c .before .before .premix-columns in
@@ -18,4 +12,4 @@ returns c =
 
 pub inv-mix-columns-spec : {M : Type 1} → statement M
 inv-mix-columns-spec =
-    tie.close (tie.spec premix-columns-requires mix-columns-requires returns)
+    tie.close (tie.spec (λ premix-columns-requires κs. search needs) (λ mix-columns-requires κs. search needs) returns)

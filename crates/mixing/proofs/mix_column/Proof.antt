@@ -16,57 +16,6 @@ use Rattle.mixing.proofs.mix_column.Tie as tie
 abbrev reduced : List ℕ → List ℕ → List ℕ → List ℕ
 reduced b t a = mixedOf (sumOf (nextSums b) (nextSums t)) a
 
-add-rows : tie.Need-add-rows
-add-rows c = search needs
-
-rows-requires : tie.Need-rows-requires
-rows-requires c κs = search needs
-
-add-mix-rows : tie.Need-add-mix-rows
-add-mix-rows c = search needs
-
-mix-rows-requires : tie.Need-mix-rows-requires
-mix-rows-requires c κs = search needs
-
-add-mix-rows-2 : tie.Need-add-mix-rows-2
-add-mix-rows-2 c = search needs
-
-mix-rows-requires-2 : tie.Need-mix-rows-requires-2
-mix-rows-requires-2 c κs = search needs
-
-add-mix-rows-3 : tie.Need-add-mix-rows-3
-add-mix-rows-3 c = search needs
-
-mix-rows-requires-3 : tie.Need-mix-rows-requires-3
-mix-rows-requires-3 c κs = search needs
-
-add-mix-reduced : tie.Need-add-mix-reduced
-add-mix-reduced c = search needs
-
-mix-reduced-requires : tie.Need-mix-reduced-requires
-mix-reduced-requires c κs = search needs
-
-add-mix-reduced-2 : tie.Need-add-mix-reduced-2
-add-mix-reduced-2 c = search needs
-
-mix-reduced-requires-2 : tie.Need-mix-reduced-requires-2
-mix-reduced-requires-2 c κs = search needs
-
-add-mix-rows-4 : tie.Need-add-mix-rows-4
-add-mix-rows-4 c = search needs
-
-mix-rows-requires-4 : tie.Need-mix-rows-requires-4
-mix-rows-requires-4 c κs = search needs
-
-mix-reduced-requires-3 : tie.Need-mix-reduced-requires-3
-mix-reduced-requires-3 c κs = search needs
-
-next-sums-requires : tie.Need-next-sums-requires
-next-sums-requires c κs = search needs
-
-mixed-requires : tie.Need-mixed-requires
-mixed-requires c κs = search needs
-
 put-rows-requires : tie.Need-put-rows-requires
 put-rows-requires c κs =
     let h = c .before .before .before .before .before .before .before .before .before .before .before .before .before .before .before .before .before .before .before .pre .1 in
@@ -106,22 +55,22 @@ pub mix-column-spec : {M : Type 1} → statement M
 mix-column-spec =
     tie.close
     (tie.spec
-    add-rows
-    rows-requires
-    add-mix-rows
-    mix-rows-requires
-    add-mix-rows-2
-    mix-rows-requires-2
-    add-mix-rows-3
-    mix-rows-requires-3
-    add-mix-reduced
-    mix-reduced-requires
-    add-mix-reduced-2
-    mix-reduced-requires-2
-    add-mix-rows-4
-    mix-rows-requires-4
-    mix-reduced-requires-3
-    next-sums-requires
-    mixed-requires
+    (λ add-rows. search needs)
+    (λ rows-requires κs. search needs)
+    (λ add-mix-rows. search needs)
+    (λ mix-rows-requires κs. search needs)
+    (λ add-mix-rows-2. search needs)
+    (λ mix-rows-requires-2 κs. search needs)
+    (λ add-mix-rows-3. search needs)
+    (λ mix-rows-requires-3 κs. search needs)
+    (λ add-mix-reduced. search needs)
+    (λ mix-reduced-requires κs. search needs)
+    (λ add-mix-reduced-2. search needs)
+    (λ mix-reduced-requires-2 κs. search needs)
+    (λ add-mix-rows-4. search needs)
+    (λ mix-rows-requires-4 κs. search needs)
+    (λ mix-reduced-requires-3 κs. search needs)
+    (λ next-sums-requires κs. search needs)
+    (λ mixed-requires κs. search needs)
     put-rows-requires
     returns)

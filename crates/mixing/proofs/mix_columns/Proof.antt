@@ -21,12 +21,6 @@ loop-holds c = (omega arith, no-column mixOf (c .args .q .now) (c .pre))
 mix-column-requires : tie.Need-mix-column-requires Inv-loop μ-loop
 mix-column-requires c κs = (c .before .before .loop .inv .1 .size, search needs)
 
-add-c : tie.Need-add-c Inv-loop μ-loop
-add-c c = search needs
-
-loop-less : tie.Need-loop-less Inv-loop μ-loop
-loop-less c = search needs
-
 loop-again : tie.Need-loop-again Inv-loop μ-loop
 loop-again c =
     let l = c .before .before .before .loop in
@@ -42,4 +36,4 @@ returns c =
 pub mix-columns-spec : {M : Type 1} → statement M
 mix-columns-spec =
     tie.close
-    (tie.spec Inv-loop μ-loop loop-holds mix-column-requires add-c loop-less loop-again returns)
+    (tie.spec Inv-loop μ-loop loop-holds mix-column-requires (λ add-c. search needs) (λ loop-less. search needs) loop-again returns)

@@ -7,21 +7,6 @@ use borrow.Author.Needs.{needs}
 use Rattle.mixing.proofs.mix_rows.Statement.{statement}
 use Rattle.mixing.proofs.mix_rows.Tie as tie
 
-rows-requires : tie.Need-rows-requires
-rows-requires c κs = search needs
-
-add-put-rows : tie.Need-add-put-rows
-add-put-rows c = search needs
-
-next-sums-requires : tie.Need-next-sums-requires
-next-sums-requires c κs = search needs
-
-mixed-requires : tie.Need-mixed-requires
-mixed-requires c κs = search needs
-
-put-rows-requires : tie.Need-put-rows-requires
-put-rows-requires c κs = search needs
-
 returns : tie.Need-returns
 returns c =
     let s = c .before .before .before .before .before .before .args in
@@ -36,9 +21,9 @@ pub mix-rows-spec : {M : Type 1} → statement M
 mix-rows-spec =
     tie.close
     (tie.spec
-    rows-requires
-    add-put-rows
-    next-sums-requires
-    mixed-requires
-    put-rows-requires
+    (λ rows-requires κs. search needs)
+    (λ add-put-rows. search needs)
+    (λ next-sums-requires κs. search needs)
+    (λ mixed-requires κs. search needs)
+    (λ put-rows-requires κs. search needs)
     returns)

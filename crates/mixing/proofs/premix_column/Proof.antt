@@ -16,57 +16,6 @@ use Rattle.mixing.proofs.premix_column.Tie as tie
 abbrev reduced : List ℕ → List ℕ → List ℕ → List ℕ
 reduced b a t = sumOf a (sumOf (crossSums b) t)
 
-add-rows : tie.Need-add-rows
-add-rows c = search needs
-
-rows-requires : tie.Need-rows-requires
-rows-requires c κs = search needs
-
-add-rows-2 : tie.Need-add-rows-2
-add-rows-2 c = search needs
-
-rows-requires-2 : tie.Need-rows-requires-2
-rows-requires-2 c κs = search needs
-
-cross-sums-requires : tie.Need-cross-sums-requires
-cross-sums-requires c κs = search needs
-
-cross-sums-requires-2 : tie.Need-cross-sums-requires-2
-cross-sums-requires-2 c κs = search needs
-
-sum-requires : tie.Need-sum-requires
-sum-requires c κs = search needs
-
-add-premix-rows : tie.Need-add-premix-rows
-add-premix-rows c = search needs
-
-premix-rows-requires : tie.Need-premix-rows-requires
-premix-rows-requires c κs = search needs
-
-add-premix-rows-2 : tie.Need-add-premix-rows-2
-add-premix-rows-2 c = search needs
-
-premix-rows-requires-2 : tie.Need-premix-rows-requires-2
-premix-rows-requires-2 c κs = search needs
-
-add-premix-reduced : tie.Need-add-premix-reduced
-add-premix-reduced c = search needs
-
-premix-reduced-requires : tie.Need-premix-reduced-requires
-premix-reduced-requires c κs = search needs
-
-add-premix-reduced-2 : tie.Need-add-premix-reduced-2
-add-premix-reduced-2 c = search needs
-
-premix-reduced-requires-2 : tie.Need-premix-reduced-requires-2
-premix-reduced-requires-2 c κs = search needs
-
-add-premix-reduced-3 : tie.Need-add-premix-reduced-3
-add-premix-reduced-3 c = search needs
-
-premix-reduced-requires-3 : tie.Need-premix-reduced-requires-3
-premix-reduced-requires-3 c κs = search needs
-
 premix-reduced-requires-4 : tie.Need-premix-reduced-requires-4
 premix-reduced-requires-4 c κs =
     let s = c .before .before .before .before .before .before .before .before .before .before .before .before in
@@ -77,16 +26,10 @@ add-put-rows c =
     let s = c .before .before .before .before .before .before .before .before .before .before .before .before in
     omega (arith, s .before .before .before .before .before .before .before .before .pre .1)
 
-sum-requires-2 : tie.Need-sum-requires-2
-sum-requires-2 c κs = search needs
-
 put-rows-requires : tie.Need-put-rows-requires
 put-rows-requires c κs =
     let s = c .before .before .before .before .before .before .before .before .before .before .before .before in
     (c .before .before .premix-reduced4 .ensures .size, omega (arith, s .before .before .before .before .before .before .before .before .before .pre .1))
-
-sum-requires-3 : tie.Need-sum-requires-3
-sum-requires-3 c κs = search needs
 
 put-rows-requires-2 : tie.Need-put-rows-requires-2
 put-rows-requires-2 c κs =
@@ -134,27 +77,27 @@ pub premix-column-spec : {M : Type 1} → statement M
 premix-column-spec =
     tie.close
     (tie.spec
-    add-rows
-    rows-requires
-    add-rows-2
-    rows-requires-2
-    cross-sums-requires
-    cross-sums-requires-2
-    sum-requires
-    add-premix-rows
-    premix-rows-requires
-    add-premix-rows-2
-    premix-rows-requires-2
-    add-premix-reduced
-    premix-reduced-requires
-    add-premix-reduced-2
-    premix-reduced-requires-2
-    add-premix-reduced-3
-    premix-reduced-requires-3
+    (λ add-rows. search needs)
+    (λ rows-requires κs. search needs)
+    (λ add-rows-2. search needs)
+    (λ rows-requires-2 κs. search needs)
+    (λ cross-sums-requires κs. search needs)
+    (λ cross-sums-requires-2 κs. search needs)
+    (λ sum-requires κs. search needs)
+    (λ add-premix-rows. search needs)
+    (λ premix-rows-requires κs. search needs)
+    (λ add-premix-rows-2. search needs)
+    (λ premix-rows-requires-2 κs. search needs)
+    (λ add-premix-reduced. search needs)
+    (λ premix-reduced-requires κs. search needs)
+    (λ add-premix-reduced-2. search needs)
+    (λ premix-reduced-requires-2 κs. search needs)
+    (λ add-premix-reduced-3. search needs)
+    (λ premix-reduced-requires-3 κs. search needs)
     premix-reduced-requires-4
     add-put-rows
-    sum-requires-2
+    (λ sum-requires-2 κs. search needs)
     put-rows-requires
-    sum-requires-3
+    (λ sum-requires-3 κs. search needs)
     put-rows-requires-2
     returns)

@@ -21,12 +21,6 @@ loop-holds c = (omega arith, no-column premixOf (c .args .q .now) (c .pre))
 premix-column-requires : tie.Need-premix-column-requires Inv-loop μ-loop
 premix-column-requires c κs = (c .before .before .loop .inv .1 .size, search needs)
 
-add-c : tie.Need-add-c Inv-loop μ-loop
-add-c c = search needs
-
-loop-less : tie.Need-loop-less Inv-loop μ-loop
-loop-less c = search needs
-
 loop-again : tie.Need-loop-again Inv-loop μ-loop
 loop-again c =
     let l = c .before .before .before .loop in
@@ -42,4 +36,4 @@ returns c =
 pub premix-columns-spec : {M : Type 1} → statement M
 premix-columns-spec =
     tie.close
-    (tie.spec Inv-loop μ-loop loop-holds premix-column-requires add-c loop-less loop-again returns)
+    (tie.spec Inv-loop μ-loop loop-holds premix-column-requires (λ add-c. search needs) (λ loop-less. search needs) loop-again returns)

@@ -7,24 +7,6 @@ use borrow.Author.Needs.{needs}
 use Rattle.mixing.proofs.premix_reduced.Statement.{statement}
 use Rattle.mixing.proofs.premix_reduced.Tie as tie
 
-rows-requires : tie.Need-rows-requires
-rows-requires c κs = search needs
-
-add-put-rows : tie.Need-add-put-rows
-add-put-rows c = search needs
-
-cross-sums-requires : tie.Need-cross-sums-requires
-cross-sums-requires c κs = search needs
-
-sum-requires : tie.Need-sum-requires
-sum-requires c κs = search needs
-
-sum-requires-2 : tie.Need-sum-requires-2
-sum-requires-2 c κs = search needs
-
-put-rows-requires : tie.Need-put-rows-requires
-put-rows-requires c κs = search needs
-
 returns : tie.Need-returns
 returns c =
     let s = c .before .before .before .before .before .before .before .args in
@@ -40,10 +22,10 @@ pub premix-reduced-spec : {M : Type 1} → statement M
 premix-reduced-spec =
     tie.close
     (tie.spec
-    rows-requires
-    add-put-rows
-    cross-sums-requires
-    sum-requires
-    sum-requires-2
-    put-rows-requires
+    (λ rows-requires κs. search needs)
+    (λ add-put-rows. search needs)
+    (λ cross-sums-requires κs. search needs)
+    (λ sum-requires κs. search needs)
+    (λ sum-requires-2 κs. search needs)
+    (λ put-rows-requires κs. search needs)
     returns)

@@ -7,21 +7,6 @@ use borrow.Author.Needs.{needs}
 use Rattle.mixing.proofs.premix_rows.Statement.{statement}
 use Rattle.mixing.proofs.premix_rows.Tie as tie
 
-rows-requires : tie.Need-rows-requires
-rows-requires c κs = search needs
-
-add-put-rows : tie.Need-add-put-rows
-add-put-rows c = search needs
-
-cross-sums-requires : tie.Need-cross-sums-requires
-cross-sums-requires c κs = search needs
-
-sum-requires : tie.Need-sum-requires
-sum-requires c κs = search needs
-
-put-rows-requires : tie.Need-put-rows-requires
-put-rows-requires c κs = search needs
-
 returns : tie.Need-returns
 returns c =
     let s = c .before .before .before .before .before .before .args in
@@ -36,9 +21,9 @@ pub premix-rows-spec : {M : Type 1} → statement M
 premix-rows-spec =
     tie.close
     (tie.spec
-    rows-requires
-    add-put-rows
-    cross-sums-requires
-    sum-requires
-    put-rows-requires
+    (λ rows-requires κs. search needs)
+    (λ add-put-rows. search needs)
+    (λ cross-sums-requires κs. search needs)
+    (λ sum-requires κs. search needs)
+    (λ put-rows-requires κs. search needs)
     returns)

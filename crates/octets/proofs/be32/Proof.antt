@@ -5,21 +5,9 @@ use Rattle.octets.specs.Octets.{bigEndian}
 use Rattle.octets.proofs.be32.Statement.{statement}
 use Rattle.octets.proofs.be32.Tie as tie
 
-cast-t6 : tie.Need-cast-t6
-cast-t6 c = search needs
-
-cast-t10 : tie.Need-cast-t10
-cast-t10 c = search needs
-
-cast-t13 : tie.Need-cast-t13
-cast-t13 c = search needs
-
-cast-t15 : tie.Need-cast-t15
-cast-t15 c = search needs
-
 returns : tie.Need-returns
 unfolding bigEndian
 returns c = refl
 
 pub be32-spec : {M : Type 1} → statement M
-be32-spec = tie.close (tie.spec cast-t6 cast-t10 cast-t13 cast-t15 returns)
+be32-spec = tie.close (tie.spec (λ cast-t6. search needs) (λ cast-t10. search needs) (λ cast-t13. search needs) (λ cast-t15. search needs) returns)

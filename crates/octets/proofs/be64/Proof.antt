@@ -5,30 +5,6 @@ use Rattle.octets.specs.Octets.{bigEndian}
 use Rattle.octets.proofs.be64.Statement.{statement}
 use Rattle.octets.proofs.be64.Tie as tie
 
-cast-t10 : tie.Need-cast-t10
-cast-t10 c = search needs
-
-cast-t18 : tie.Need-cast-t18
-cast-t18 c = search needs
-
-cast-t25 : tie.Need-cast-t25
-cast-t25 c = search needs
-
-cast-t31 : tie.Need-cast-t31
-cast-t31 c = search needs
-
-cast-t36 : tie.Need-cast-t36
-cast-t36 c = search needs
-
-cast-t40 : tie.Need-cast-t40
-cast-t40 c = search needs
-
-cast-t43 : tie.Need-cast-t43
-cast-t43 c = search needs
-
-cast-t45 : tie.Need-cast-t45
-cast-t45 c = search needs
-
 returns : tie.Need-returns
 unfolding bigEndian
 returns c = refl
@@ -36,4 +12,13 @@ returns c = refl
 pub be64-spec : {M : Type 1} → statement M
 be64-spec =
     tie.close
-    (tie.spec cast-t10 cast-t18 cast-t25 cast-t31 cast-t36 cast-t40 cast-t43 cast-t45 returns)
+    (tie.spec
+    (λ cast-t10. search needs)
+    (λ cast-t18. search needs)
+    (λ cast-t25. search needs)
+    (λ cast-t31. search needs)
+    (λ cast-t36. search needs)
+    (λ cast-t40. search needs)
+    (λ cast-t43. search needs)
+    (λ cast-t45. search needs)
+    returns)

@@ -19,24 +19,12 @@ abbrev μ-loop : tie.MeasureT-loop
 loop-holds : tie.Need-loop-holds Inv-loop μ-loop
 loop-holds c = (omega arith, paste-zero (c .args .d .now) (c .args .at) (c .args .b .now))
 
-shared-slice-read-d : tie.Need-shared-slice-read-d Inv-loop μ-loop
-shared-slice-read-d c = search needs
-
-add-d : tie.Need-add-d Inv-loop μ-loop
-add-d c = search needs
-
 slice-write-d : tie.Need-slice-write-d Inv-loop μ-loop
 slice-write-d c =
     let a = c .before .before .before .args in
     let l = c .before .before .loop in
     let e : length (l .d) ≡ length (a .d .now) = ap length (l .inv .1) ∙ length-paste (a .d .now) (a .at) (a .b .now) (l .i) (omega arith) (omega arith) in
     omega arith
-
-add-i : tie.Need-add-i Inv-loop μ-loop
-add-i c = search needs
-
-loop-less : tie.Need-loop-less Inv-loop μ-loop
-loop-less c = search needs
 
 loop-again : tie.Need-loop-again Inv-loop μ-loop
 loop-again c =
@@ -59,11 +47,11 @@ copy-into-spec =
     Inv-loop
     μ-loop
     loop-holds
-    shared-slice-read-d
-    add-d
+    (λ shared-slice-read-d. search needs)
+    (λ add-d. search needs)
     slice-write-d
-    add-i
-    loop-less
+    (λ add-i. search needs)
+    (λ loop-less. search needs)
     loop-again
     same-length
     returns)

@@ -43,12 +43,6 @@ try-slot-requires c κs =
     let k = slot-of c in
     (start c .pre .0, sym (number-is k (c .before .loop .inv .0)) ∙ le-leb k 8 (in-range c), start c .pre .1)
 
-add-slot : tie.Need-add-slot Inv-loop μ-loop
-add-slot c = search needs
-
-loop-less : tie.Need-loop-less Inv-loop μ-loop
-loop-less c = search needs
-
 loop-again : tie.Need-loop-again Inv-loop μ-loop
 loop-again c =
     let t = c .before .before .try-slot in
@@ -87,8 +81,8 @@ find-slot-spec =
     μ-loop
     loop-holds
     try-slot-requires
-    add-slot
-    loop-less
+    (λ add-slot. search needs)
+    (λ loop-less. search needs)
     loop-again
     returns
     returns-2)

@@ -2,8 +2,8 @@
 use mathlib.Core.Path.{_≡_, refl, sym, ap, _∙_}
 use mathlib.Core.Bool.{true}
 use native.Mathlib.Omega.{arith}
-use borrow.Author.Tests.{not-true, not-false}
 use borrow.Author.Needs.{needs}
+use Rattle.octets.proofs.BoolLaws.{holds, fails}
 use Rattle.rules.specs.Checks.{first}
 use Rattle.rules.specs.Facts.{Facts}
 use Rattle.rules.specs.Calls.{Call, openAny, passphraseOk, earlyChecks, lateChecks, answer, opened}
@@ -36,22 +36,13 @@ header-ok : (c : tie.Else1) → HeaderOk (at-1 c .args .image .now)
 header-ok c = sym (c .before .before .header-check .ensures) ∙ sym (c .before .number-of .ensures) ∙ c .if1 .left
 
 passphrase-ok : (c : tie.Else2) → passphraseOk (at-1 (at-2 c) .args .passphrase .now) ≡ true
-passphrase-ok c = sym (c .before .passphrase-ok .ensures) ∙ not-false (c .before .passphrase-ok .result) (c .if2 .left)
+passphrase-ok c = holds (c .before .passphrase-ok .ensures) (c .if2 .left)
 
 early-ok : (c : tie.Else2) → let s = at-1 (at-2 c) in first (earlyChecks (facts s) (call s)) ≡ 0
 unfolding earlyChecks
 early-ok c = let s = at-1 (at-2 c) in first-pass (earlyChecks (facts s) (call s)) (passphrase-ok c, tt)
 
 -- ---- needs
-
-header-check-requires : tie.Need-header-check-requires
-header-check-requires c κs = search needs
-
-number-of-requires : tie.Need-number-of-requires
-number-of-requires c κs = search needs
-
-refused-requires : tie.Need-refused-requires
-refused-requires c κs = search needs
 
 returns : tie.Need-returns
 returns c =
@@ -62,12 +53,6 @@ returns c =
     opens-refused m (call s) (no-key-any (s .args .passphrase .now)) (c .refused .ensures)
     (step-header built m (call s) (number (h .result)) (λ q. e .if1 .taken (e .before .number-of .ensures ∙ q)) (h .ensures))
 
-passphrase-ok-requires : tie.Need-passphrase-ok-requires
-passphrase-ok-requires c κs = search needs
-
-refused-requires-2 : tie.Need-refused-requires-2
-refused-requires-2 c κs = search needs
-
 returns-2 : tie.Need-returns-2
 unfolding earlyChecks
 returns-2 c =
@@ -75,21 +60,12 @@ returns-2 c =
     let p = c .before .before .before in
     let s = at-1 p in
     let m = s .args .image .now in
-    let bad = sym (t .ensures) ∙ not-true (t .result) (c .before .if2 .taken) in
+    let bad = fails (t .ensures) (c .before .if2 .taken) in
     opens-refused m (call s) (no-key-any (s .args .passphrase .now)) (c .refused2 .ensures)
     (step-early built m (call s) (header-ok p) 14 (λ q. omega arith) (refused-by (earlyChecks (facts s) (call s)) 0 tt bad))
 
 find-slot-requires : tie.Need-find-slot-requires
 find-slot-requires c κs = (header-ok (at-2 c), passphrase-ok c)
-
-enum-known-found : tie.Need-enum-known-found
-enum-known-found c = search needs
-
-enum-told : tie.Need-enum-told
-enum-told c = search needs
-
-refused-requires-3 : tie.Need-refused-requires-3
-refused-requires-3 c κs = search needs
 
 returns-3 : tie.Need-returns-3
 unfolding lateChecks
@@ -106,9 +82,6 @@ key-bytes-requires : tie.Need-key-bytes-requires
 key-bytes-requires c κs =
     let p = at-2 (c .before .before .before .before .before) in
     sound (at-1 p .args .image .now) (header-ok p) .named
-
-cast-t8 : tie.Need-cast-t8
-cast-t8 c = search needs
 
 returns-4 : tie.Need-returns-4
 unfolding lateChecks answer opened
@@ -127,18 +100,18 @@ pub open-spec : {M : Type 1} → statement M
 open-spec =
     tie.close
     (tie.spec
-    header-check-requires
-    number-of-requires
-    refused-requires
+    (λ header-check-requires κs. search needs)
+    (λ number-of-requires κs. search needs)
+    (λ refused-requires κs. search needs)
     returns
-    passphrase-ok-requires
-    refused-requires-2
+    (λ passphrase-ok-requires κs. search needs)
+    (λ refused-requires-2 κs. search needs)
     returns-2
     find-slot-requires
-    enum-known-found
-    enum-told
-    refused-requires-3
+    (λ enum-known-found. search needs)
+    (λ enum-told. search needs)
+    (λ refused-requires-3 κs. search needs)
     returns-3
     key-bytes-requires
-    cast-t8
+    (λ cast-t8. search needs)
     returns-4)

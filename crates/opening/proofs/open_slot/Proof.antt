@@ -49,15 +49,6 @@ matches-is c =
 
 -- ---- needs
 
-header-check-requires : tie.Need-header-check-requires
-header-check-requires c κs = search needs
-
-number-of-requires : tie.Need-number-of-requires
-number-of-requires c κs = search needs
-
-refused-requires : tie.Need-refused-requires
-refused-requires c κs = search needs
-
 returns : tie.Need-returns
 returns c =
     let e = c .before in
@@ -66,15 +57,6 @@ returns c =
     let m = s .args .image .now in
     opens-refused m (call s) (no-key-slot (s .args .slot) (s .args .passphrase .now)) (c .refused .ensures)
     (step-header built m (call s) (number (h .result)) (λ q. e .if1 .taken (e .before .number-of .ensures ∙ q)) (h .ensures))
-
-open-slot-check-requires : tie.Need-open-slot-check-requires
-open-slot-check-requires c κs = search needs
-
-number-of-requires-2 : tie.Need-number-of-requires-2
-number-of-requires-2 c κs = search needs
-
-refused-requires-2 : tie.Need-refused-requires-2
-refused-requires-2 c κs = search needs
 
 returns-2 : tie.Need-returns-2
 returns-2 c =
@@ -89,9 +71,6 @@ returns-2 c =
 try-slot-requires : tie.Need-try-slot-requires
 unfolding earlyChecks
 try-slot-requires c κs = let p = passed c in (header-ok (at-2 c), p .0, p .1 .0)
-
-refused-requires-3 : tie.Need-refused-requires-3
-refused-requires-3 c κs = search needs
 
 returns-3 : tie.Need-returns-3
 unfolding lateChecks
@@ -109,9 +88,6 @@ key-bytes-requires c κs =
     let p = at-2 (c .before .before .before .before) in
     sound (at-1 p .args .image .now) (header-ok p) .named
 
-cast-t8 : tie.Need-cast-t8
-cast-t8 c = search needs
-
 returns-4 : tie.Need-returns-4
 unfolding lateChecks answer opened
 returns-4 c =
@@ -128,17 +104,17 @@ pub open-slot-spec : {M : Type 1} → statement M
 open-slot-spec =
     tie.close
     (tie.spec
-    header-check-requires
-    number-of-requires
-    refused-requires
+    (λ header-check-requires κs. search needs)
+    (λ number-of-requires κs. search needs)
+    (λ refused-requires κs. search needs)
     returns
-    open-slot-check-requires
-    number-of-requires-2
-    refused-requires-2
+    (λ open-slot-check-requires κs. search needs)
+    (λ number-of-requires-2 κs. search needs)
+    (λ refused-requires-2 κs. search needs)
     returns-2
     try-slot-requires
-    refused-requires-3
+    (λ refused-requires-3 κs. search needs)
     returns-3
     key-bytes-requires
-    cast-t8
+    (λ cast-t8. search needs)
     returns-4)

@@ -13,9 +13,6 @@ use Rattle.payload.proofs.payload_units.Tie as tie
 payload-at-requires : tie.Need-payload-at-requires
 payload-at-requires c κs = let s = c .before in sound (s .args .image .now) (s .pre) .size
 
-unit-offset-requires : tie.Need-unit-offset-requires
-unit-offset-requires c κs = search needs
-
 sub-t6 : tie.Need-sub-t6
 sub-t6 c =
     let s = c .before .before .before in
@@ -28,4 +25,4 @@ returns c =
     ap (λ (n : ℕ). n / 512) e
 
 pub payload-units-spec : {M : Type 1} → statement M
-payload-units-spec = tie.close (tie.spec payload-at-requires unit-offset-requires sub-t6 returns)
+payload-units-spec = tie.close (tie.spec payload-at-requires (λ unit-offset-requires κs. search needs) sub-t6 returns)

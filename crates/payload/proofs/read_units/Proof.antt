@@ -37,17 +37,8 @@ unit-offset-requires c κs = omega (arith, room-of (c .before .before .before .b
 add-end : tie.Need-add-end
 add-end c = omega (arith, room-of (start c) .ends, offset-is c)
 
-sub-copy-into : tie.Need-sub-copy-into
-sub-copy-into c = search needs
-
-part-copy-into-start : tie.Need-part-copy-into-start
-part-copy-into-start c = search needs
-
 part-copy-into-end : tie.Need-part-copy-into-end
 part-copy-into-end c = omega (arith, room-of (start (c .before)) .ends, offset-is (c .before))
-
-copy-into-requires : tie.Need-copy-into-requires
-copy-into-requires c κs = search needs
 
 decrypt-all-requires : tie.Need-decrypt-all-requires
 decrypt-all-requires c κs =
@@ -56,9 +47,6 @@ decrypt-all-requires c κs =
     let r = room-of s in
     let l : length (q .copy-into .last .0) ≡ length (s .args .buffer .now) = search needs in
     (omega (arith, r .size), omega (arith, r .ends), r .key-least, r .key-most, r .key-whole)
-
-same-length : tie.Need-same-length
-same-length c = search needs
 
 returns : tie.Need-returns
 returns c =
@@ -76,10 +64,10 @@ read-units-spec =
     payload-at-requires
     unit-offset-requires
     add-end
-    sub-copy-into
-    part-copy-into-start
+    (λ sub-copy-into. search needs)
+    (λ part-copy-into-start. search needs)
     part-copy-into-end
-    copy-into-requires
+    (λ copy-into-requires κs. search needs)
     decrypt-all-requires
-    same-length
+    (λ same-length. search needs)
     returns)

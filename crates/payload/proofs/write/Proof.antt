@@ -1,8 +1,8 @@
 -- `payload::write` meets its contract: header, then the checks that derive nothing, then the key.
 use mathlib.Core.Path.{_≡_, sym, _∙_}
 use native.Mathlib.Omega.{arith}
-use borrow.Author.Tests.{not-true, not-false}
 use borrow.Author.Needs.{needs}
+use Rattle.octets.proofs.BoolLaws.{holds, fails}
 use Rattle.rules.specs.Checks.{first}
 use Rattle.rules.specs.Facts.{Facts}
 use Rattle.rules.specs.Calls.{Call, write, earlyChecks, lateChecks, answer, done}
@@ -44,18 +44,9 @@ unfolding lateChecks
 late-ok c =
     let s = at-1 (at-2 (at-3 c)) in
     let t = c .before .key-matches in
-    first-pass (lateChecks (facts s) (call s)) (sym (t .ensures) ∙ not-false (t .result) (c .if3 .left), tt)
+    first-pass (lateChecks (facts s) (call s)) (holds (t .ensures) (c .if3 .left), tt)
 
 -- ---- needs
-
-header-check-requires : tie.Need-header-check-requires
-header-check-requires c κs = search needs
-
-number-of-requires : tie.Need-number-of-requires
-number-of-requires c κs = search needs
-
-same-length : tie.Need-same-length
-same-length c = search needs
 
 returns : tie.Need-returns
 returns c =
@@ -64,15 +55,6 @@ returns c =
     let m = s .args .image .now in
     does-refused built m (call s) _
     (step-header built m (call s) (number (h .result)) (λ q. c .if1 .taken (c .before .number-of .ensures ∙ q)) (h .ensures))
-
-range-check-requires : tie.Need-range-check-requires
-range-check-requires c κs = search needs
-
-number-of-requires-2 : tie.Need-number-of-requires-2
-number-of-requires-2 c κs = search needs
-
-same-length-2 : tie.Need-same-length-2
-same-length-2 c = search needs
 
 returns-2 : tie.Need-returns-2
 unfolding earlyChecks
@@ -92,9 +74,6 @@ key-matches-requires c κs =
     let a = s .args in
     (header-ok (at-2 e), room (a .image .now) (header-ok (at-2 e)) (a .key .now) (a .from .0) (a .units .0) (a .buffer .now) (early-ok e) .key-most)
 
-same-length-3 : tie.Need-same-length-3
-same-length-3 c = search needs
-
 returns-3 : tie.Need-returns-3
 unfolding lateChecks
 returns-3 c =
@@ -102,15 +81,9 @@ returns-3 c =
     let e = c .before .before .before in
     let s = at-1 (at-2 e) in
     let m = s .args .image .now in
-    let wrong = sym (t .ensures) ∙ not-true (t .result) (c .if3 .taken) in
+    let wrong = fails (t .ensures) (c .if3 .taken) in
     does-refused built m (call s) 17
     (step-late built m (call s) (header-ok (at-2 e)) (early-ok e) 17 (λ q. omega arith) (refused-by (lateChecks (facts s) (call s)) 0 tt wrong))
-
-write-units-requires : tie.Need-write-units-requires
-write-units-requires c κs = search needs
-
-same-length-4 : tie.Need-same-length-4
-same-length-4 c = search needs
 
 returns-4 : tie.Need-returns-4
 unfolding answer done
@@ -126,17 +99,17 @@ pub write-spec : {M : Type 1} → statement M
 write-spec =
     tie.close
     (tie.spec
-    header-check-requires
-    number-of-requires
-    same-length
+    (λ header-check-requires κs. search needs)
+    (λ number-of-requires κs. search needs)
+    (λ same-length. search needs)
     returns
-    range-check-requires
-    number-of-requires-2
-    same-length-2
+    (λ range-check-requires κs. search needs)
+    (λ number-of-requires-2 κs. search needs)
+    (λ same-length-2. search needs)
     returns-2
     key-matches-requires
-    same-length-3
+    (λ same-length-3. search needs)
     returns-3
-    write-units-requires
-    same-length-4
+    (λ write-units-requires κs. search needs)
+    (λ same-length-4. search needs)
     returns-4)

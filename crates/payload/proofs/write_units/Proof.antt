@@ -54,12 +54,6 @@ add-end c = omega (arith, room-of (start c) .ends, offset-is c)
 copy-into-requires : tie.Need-copy-into-requires
 copy-into-requires c κs = omega (arith, room-of (start (c .before)) .ends, offset-is (c .before))
 
-sub-encrypt-all : tie.Need-sub-encrypt-all
-sub-encrypt-all c = search needs
-
-part-encrypt-all-start : tie.Need-part-encrypt-all-start
-part-encrypt-all-start c = search needs
-
 part-encrypt-all-end : tie.Need-part-encrypt-all-end
 part-encrypt-all-end c =
     let q = c .before .before in
@@ -73,9 +67,6 @@ encrypt-all-requires c κs =
     let r = room-of (start (found q)) in
     let l = part-length q in
     (omega (arith, l, r .size), omega (arith, l, r .ends), r .key-least, r .key-most, r .key-whole)
-
-same-length : tie.Need-same-length
-same-length c = search needs
 
 returns : tie.Need-returns
 returns c =
@@ -96,9 +87,9 @@ write-units-spec =
     unit-offset-requires
     add-end
     copy-into-requires
-    sub-encrypt-all
-    part-encrypt-all-start
+    (λ sub-encrypt-all. search needs)
+    (λ part-encrypt-all-start. search needs)
     part-encrypt-all-end
     encrypt-all-requires
-    same-length
+    (λ same-length. search needs)
     returns)

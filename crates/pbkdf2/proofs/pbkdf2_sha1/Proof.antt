@@ -10,24 +10,6 @@ use Rattle.pbkdf2.proofs.FoursLaws.{all-blocks}
 use Rattle.pbkdf2.proofs.pbkdf2_sha1.Statement.{statement}
 use Rattle.pbkdf2.proofs.pbkdf2_sha1.Tie as tie
 
-prepare-requires : tie.Need-prepare-requires
-prepare-requires c κs = search needs
-
-add-groups : tie.Need-add-groups
-add-groups c = search needs
-
-put-fours-requires : tie.Need-put-fours-requires
-put-fours-requires c κs = search needs
-
-mul-put-rest : tie.Need-mul-put-rest
-mul-put-rest c = search needs
-
-put-rest-requires : tie.Need-put-rest-requires
-put-rest-requires c κs = search needs
-
-same-length : tie.Need-same-length
-same-length c = search needs
-
 returns : tie.Need-returns
 returns c =
     let r = c .before .before .put-rest in
@@ -45,10 +27,10 @@ pub pbkdf2-sha1-spec : {M : Type 1} → statement M
 pbkdf2-sha1-spec =
     tie.close
     (tie.spec
-    prepare-requires
-    add-groups
-    put-fours-requires
-    mul-put-rest
-    put-rest-requires
-    same-length
+    (λ prepare-requires κs. search needs)
+    (λ add-groups. search needs)
+    (λ put-fours-requires κs. search needs)
+    (λ mul-put-rest. search needs)
+    (λ put-rest-requires κs. search needs)
+    (λ same-length. search needs)
     returns)

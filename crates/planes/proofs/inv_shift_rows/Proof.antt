@@ -20,36 +20,6 @@ loop-holds c =
     let k = c .before .args .k .now in
     (omega arith, rows-none (turnedRow right still q k) q (c .before .pre .0))
 
-mul-g : tie.Need-mul-g Inv-loop μ-loop
-mul-g c = search needs
-
-turn-row-requires : tie.Need-turn-row-requires Inv-loop μ-loop
-turn-row-requires c κs = search needs
-
-add-turn-row : tie.Need-add-turn-row Inv-loop μ-loop
-add-turn-row c = search needs
-
-turn-row-requires-2 : tie.Need-turn-row-requires-2 Inv-loop μ-loop
-turn-row-requires-2 c κs = search needs
-
-add-turn-row-2 : tie.Need-add-turn-row-2 Inv-loop μ-loop
-add-turn-row-2 c = search needs
-
-turn-row-requires-3 : tie.Need-turn-row-requires-3 Inv-loop μ-loop
-turn-row-requires-3 c κs = search needs
-
-add-turn-row-3 : tie.Need-add-turn-row-3 Inv-loop μ-loop
-add-turn-row-3 c = search needs
-
-turn-row-requires-4 : tie.Need-turn-row-requires-4 Inv-loop μ-loop
-turn-row-requires-4 c κs = search needs
-
-add-i : tie.Need-add-i Inv-loop μ-loop
-add-i c = search needs
-
-loop-less : tie.Need-loop-less Inv-loop μ-loop
-loop-less c = search needs
-
 loop-again : tie.Need-loop-again Inv-loop μ-loop
 loop-again c =
     let l = c .before .before .before .before .before .before .before .before .before .loop in
@@ -78,15 +48,15 @@ inv-shift-rows-spec =
     Inv-loop
     μ-loop
     loop-holds
-    mul-g
-    turn-row-requires
-    add-turn-row
-    turn-row-requires-2
-    add-turn-row-2
-    turn-row-requires-3
-    add-turn-row-3
-    turn-row-requires-4
-    add-i
-    loop-less
+    (λ mul-g. search needs)
+    (λ turn-row-requires κs. search needs)
+    (λ add-turn-row. search needs)
+    (λ turn-row-requires-2 κs. search needs)
+    (λ add-turn-row-2. search needs)
+    (λ turn-row-requires-3 κs. search needs)
+    (λ add-turn-row-3. search needs)
+    (λ turn-row-requires-4 κs. search needs)
+    (λ add-i. search needs)
+    (λ loop-less. search needs)
     loop-again
     returns)

@@ -18,21 +18,6 @@ abbrev μ-loop : tie.MeasureT-loop
 loop-holds : tie.Need-loop-holds Inv-loop μ-loop
 loop-holds c = (omega arith, cells-none invSboxOf (c .args .q .now) (c .pre))
 
-cell-at-requires : tie.Need-cell-at-requires Inv-loop μ-loop
-cell-at-requires c κs = search needs
-
-inv-sbox-requires : tie.Need-inv-sbox-requires Inv-loop μ-loop
-inv-sbox-requires c κs = search needs
-
-put-cell-requires : tie.Need-put-cell-requires Inv-loop μ-loop
-put-cell-requires c κs = search needs
-
-add-p : tie.Need-add-p Inv-loop μ-loop
-add-p c = search needs
-
-loop-less : tie.Need-loop-less Inv-loop μ-loop
-loop-less c = search needs
-
 loop-again : tie.Need-loop-again Inv-loop μ-loop
 loop-again c =
     let l = c .before .before .before .before .before .before .loop in
@@ -55,10 +40,10 @@ inv-sub-bytes-spec =
     Inv-loop
     μ-loop
     loop-holds
-    cell-at-requires
-    inv-sbox-requires
-    put-cell-requires
-    add-p
-    loop-less
+    (λ cell-at-requires κs. search needs)
+    (λ inv-sbox-requires κs. search needs)
+    (λ put-cell-requires κs. search needs)
+    (λ add-p. search needs)
+    (λ loop-less. search needs)
     loop-again
     returns)

@@ -5,21 +5,6 @@ use borrow.Author.Needs.{needs}
 use Rattle.planes.proofs.transpose.Statement.{statement}
 use Rattle.planes.proofs.transpose.Tie as tie
 
-exchange-requires : tie.Need-exchange-requires
-exchange-requires c κs = search needs
-
-exchange-requires-2 : tie.Need-exchange-requires-2
-exchange-requires-2 c κs = search needs
-
-exchange-requires-3 : tie.Need-exchange-requires-3
-exchange-requires-3 c κs = search needs
-
-exchange-requires-4 : tie.Need-exchange-requires-4
-exchange-requires-4 c κs = search needs
-
-exchange-requires-5 : tie.Need-exchange-requires-5
-exchange-requires-5 c κs = search needs
-
 returns : tie.Need-returns
 returns c =
     let q = c .before .before .before .before .before .before .before .before .before .before .before .before .before .before .before .args .q .now in
@@ -48,9 +33,9 @@ pub transpose-spec : {M : Type 1} → statement M
 transpose-spec =
     tie.close
     (tie.spec
-    exchange-requires
-    exchange-requires-2
-    exchange-requires-3
-    exchange-requires-4
-    exchange-requires-5
+    (λ exchange-requires κs. search needs)
+    (λ exchange-requires-2 κs. search needs)
+    (λ exchange-requires-3 κs. search needs)
+    (λ exchange-requires-4 κs. search needs)
+    (λ exchange-requires-5 κs. search needs)
     returns)

@@ -16,30 +16,6 @@ abbrev μ-loop : tie.MeasureT-loop
 loop-holds : tie.Need-loop-holds Inv-loop μ-loop
 loop-holds c = (omega arith, summed-none (c .args .q .now) (c .args .k .now) (c .pre .0))
 
-mul-q : tie.Need-mul-q Inv-loop μ-loop
-mul-q c = search needs
-
-element-copy-out-q : tie.Need-element-copy-out-q Inv-loop μ-loop
-element-copy-out-q c = search needs
-
-mul-q-2 : tie.Need-mul-q-2 Inv-loop μ-loop
-mul-q-2 c = search needs
-
-shared-slice-read-q : tie.Need-shared-slice-read-q Inv-loop μ-loop
-shared-slice-read-q c = search needs
-
-mul-q-3 : tie.Need-mul-q-3 Inv-loop μ-loop
-mul-q-3 c = search needs
-
-element-write-q : tie.Need-element-write-q Inv-loop μ-loop
-element-write-q c = search needs
-
-add-v : tie.Need-add-v Inv-loop μ-loop
-add-v c = search needs
-
-loop-less : tie.Need-loop-less Inv-loop μ-loop
-loop-less c = search needs
-
 loop-again : tie.Need-loop-again Inv-loop μ-loop
 loop-again c =
     let l = c .before .before .before .loop in
@@ -59,13 +35,13 @@ xor-words-spec =
     Inv-loop
     μ-loop
     loop-holds
-    mul-q
-    element-copy-out-q
-    mul-q-2
-    shared-slice-read-q
-    mul-q-3
-    element-write-q
-    add-v
-    loop-less
+    (λ mul-q. search needs)
+    (λ element-copy-out-q. search needs)
+    (λ mul-q-2. search needs)
+    (λ shared-slice-read-q. search needs)
+    (λ mul-q-3. search needs)
+    (λ element-write-q. search needs)
+    (λ add-v. search needs)
+    (λ loop-less. search needs)
     loop-again
     returns)

@@ -3,9 +3,8 @@ use mathlib.Core.Path.{_≡_, refl, sym, _∙_}
 use mathlib.Core.Bool.{Bool, true, false, _&&_}
 use lib.Dec.{eqb}
 use lib.ListN.{length}
-use borrow.Author.Tests.{not-true, not-false}
 use borrow.Author.Needs.{needs}
-use Rattle.octets.proofs.BoolLaws.{and-no, and-yes}
+use Rattle.octets.proofs.BoolLaws.{holds, fails, and-no, and-yes}
 use Rattle.profiles.specs.Records.{sameText, hasRow}
 use Rattle.profiles.proofs.has_row.Statement.{statement}
 use Rattle.profiles.proofs.has_row.Tie as tie
@@ -34,18 +33,15 @@ abbrev key-fits : tie.Start → Bool
 key-fits s = eqb (s .args .key-bytes) (s .args .p .«key_bytes»)
 
 cipher-yes : (c : tie.Else1) → cipher-fits (at-1 c) ≡ true
-cipher-yes c = sym (c .before .same-text .ensures) ∙ not-false (c .before .same-text .result) (c .if1 .left)
+cipher-yes c = holds (c .before .same-text .ensures) (c .if1 .left)
 
 mode-yes : (c : tie.Else2) → mode-fits (at-1 (at-2 c)) ≡ true
-mode-yes c = sym (c .before .same-text2 .ensures) ∙ not-false (c .before .same-text2 .result) (c .if2 .left)
+mode-yes c = holds (c .before .same-text2 .ensures) (c .if2 .left)
 
 hash-yes : (c : tie.Else3) → hash-fits (at-1 (at-2 (at-3 c))) ≡ true
-hash-yes c = sym (c .before .same-text3 .ensures) ∙ not-false (c .before .same-text3 .result) (c .if3 .left)
+hash-yes c = holds (c .before .same-text3 .ensures) (c .if3 .left)
 
 -- ---- needs
-
-slice-aggregate-same-text : tie.Need-slice-aggregate-same-text
-slice-aggregate-same-text c = search needs
 
 same-text-requires : tie.Need-same-text-requires
 same-text-requires c κs =
@@ -58,10 +54,7 @@ returns : tie.Need-returns
 unfolding hasRow
 returns c =
     let s = c .before .before .before .before .before in
-    and-no (cipher-fits s) (mode-fits s && (hash-fits s && key-fits s)) (sym (c .before .same-text .ensures) ∙ not-true (c .before .same-text .result) (c .if1 .taken))
-
-slice-aggregate-same-text-2 : tie.Need-slice-aggregate-same-text-2
-slice-aggregate-same-text-2 c = search needs
+    and-no (cipher-fits s) (mode-fits s && (hash-fits s && key-fits s)) (fails (c .before .same-text .ensures) (c .if1 .taken))
 
 same-text-requires-2 : tie.Need-same-text-requires-2
 same-text-requires-2 c κs =
@@ -76,10 +69,7 @@ returns-2 c =
     let e = c .before .before .before .before .before in
     let s = at-1 e in
     and-yes (cipher-fits s) (mode-fits s && (hash-fits s && key-fits s)) false (cipher-yes e)
-    (and-no (mode-fits s) (hash-fits s && key-fits s) (sym (c .before .same-text2 .ensures) ∙ not-true (c .before .same-text2 .result) (c .if2 .taken)))
-
-slice-aggregate-same-text-3 : tie.Need-slice-aggregate-same-text-3
-slice-aggregate-same-text-3 c = search needs
+    (and-no (mode-fits s) (hash-fits s && key-fits s) (fails (c .before .same-text2 .ensures) (c .if2 .taken)))
 
 same-text-requires-3 : tie.Need-same-text-requires-3
 same-text-requires-3 c κs =
@@ -95,7 +85,7 @@ returns-3 c =
     let s = at-1 (at-2 e) in
     and-yes (cipher-fits s) (mode-fits s && (hash-fits s && key-fits s)) false (cipher-yes (at-2 e))
     (and-yes (mode-fits s) (hash-fits s && key-fits s) false (mode-yes e)
-    (and-no (hash-fits s) (key-fits s) (sym (c .before .same-text3 .ensures) ∙ not-true (c .before .same-text3 .result) (c .if3 .taken))))
+    (and-no (hash-fits s) (key-fits s) (fails (c .before .same-text3 .ensures) (c .if3 .taken))))
 
 returns-4 : tie.Need-returns-4
 unfolding hasRow
@@ -109,13 +99,13 @@ pub has-row-spec : {M : Type 1} → statement M
 has-row-spec =
     tie.close
     (tie.spec
-    slice-aggregate-same-text
+    (λ slice-aggregate-same-text. search needs)
     same-text-requires
     returns
-    slice-aggregate-same-text-2
+    (λ slice-aggregate-same-text-2. search needs)
     same-text-requires-2
     returns-2
-    slice-aggregate-same-text-3
+    (λ slice-aggregate-same-text-3. search needs)
     same-text-requires-3
     returns-3
     returns-4)

@@ -21,21 +21,12 @@ loop-holds : tie.Need-loop-holds Inv-loop μ-loop
 unfolding rows
 loop-holds c = (omega arith, refl)
 
-mul-p : tie.Need-mul-p Inv-loop μ-loop
-mul-p c = search needs
-
-array-copy-out-p : tie.Need-array-copy-out-p Inv-loop μ-loop
-array-copy-out-p c = search needs
-
 returns : tie.Need-returns Inv-loop μ-loop
 unfolding zeros rows aesXtsRow
 returns c =
     let l = c .before .before .before .before .loop in
     let n = c .before .before .before .before .before .args .number in
     number-found rows n (l .i) (known rows n) (omega arith) (c .if1 .taken) (l .inv .1)
-
-add-i : tie.Need-add-i Inv-loop μ-loop
-add-i c = search needs
 
 loop-less : tie.Need-loop-less Inv-loop μ-loop
 unfolding rows
@@ -62,10 +53,10 @@ is-known-spec =
     Inv-loop
     μ-loop
     loop-holds
-    mul-p
-    array-copy-out-p
+    (λ mul-p. search needs)
+    (λ array-copy-out-p. search needs)
     returns
-    add-i
+    (λ add-i. search needs)
     loop-less
     loop-again
     returns-2)

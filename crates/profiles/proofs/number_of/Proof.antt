@@ -29,15 +29,6 @@ loop-holds : tie.Need-loop-holds Inv-loop μ-loop
 unfolding rows
 loop-holds c = (omega arith, refl)
 
-mul-p : tie.Need-mul-p Inv-loop μ-loop
-mul-p c = search needs
-
-array-copy-out-p : tie.Need-array-copy-out-p Inv-loop μ-loop
-array-copy-out-p c = search needs
-
-has-row-requires : tie.Need-has-row-requires Inv-loop μ-loop
-has-row-requires c κs = search needs
-
 returns : tie.Need-returns Inv-loop μ-loop
 unfolding zeros rows aesXtsRow
 returns c =
@@ -45,9 +36,6 @@ returns c =
     let l = c .before .before .before .before .loop in
     header-found rows names-ok (a .cipher .now) (a .mode .now) (a .hash .now) (a .key-bytes) (l .i) (numberOf rows (a .cipher .now) (a .mode .now) (a .hash .now) (a .key-bytes))
     (omega arith) (sym (c .before .has-row .ensures) ∙ c .if1 .taken) (l .inv .1)
-
-add-i : tie.Need-add-i Inv-loop μ-loop
-add-i c = search needs
 
 loop-less : tie.Need-loop-less Inv-loop μ-loop
 unfolding rows
@@ -78,11 +66,11 @@ number-of-spec =
     Inv-loop
     μ-loop
     loop-holds
-    mul-p
-    array-copy-out-p
-    has-row-requires
+    (λ mul-p. search needs)
+    (λ array-copy-out-p. search needs)
+    (λ has-row-requires κs. search needs)
     returns
-    add-i
+    (λ add-i. search needs)
     loop-less
     loop-again
     returns-2)

@@ -24,21 +24,12 @@ loop-holds : tie.Need-loop-holds Inv-loop μ-loop
 unfolding rows
 loop-holds c = (omega arith, c .pre, refl)
 
-mul-p : tie.Need-mul-p Inv-loop μ-loop
-mul-p c = search needs
-
-array-copy-out-p : tie.Need-array-copy-out-p Inv-loop μ-loop
-array-copy-out-p c = search needs
-
 returns : tie.Need-returns Inv-loop μ-loop
 unfolding zeros rows aesXtsRow
 returns c =
     let l = c .before .before .before .before .loop in
     let n = c .before .before .before .before .before .args .number in
     row-found rows n (l .i) (profileAt rows n) (omega arith) (c .if1 .taken) (l .inv .2)
-
-add-i : tie.Need-add-i Inv-loop μ-loop
-add-i c = search needs
 
 loop-less : tie.Need-loop-less Inv-loop μ-loop
 unfolding rows
@@ -54,9 +45,6 @@ loop-again c =
       row-next rows n (l .i) (profileAt rows n) (omega arith) (c .if1 .left) (l .inv .2),
     )
 
-array-copy-out-result : tie.Need-array-copy-out-result Inv-loop μ-loop
-array-copy-out-result c = search needs
-
 -- the loop does not end without a row
 returns-2 : tie.Need-returns-2 Inv-loop μ-loop
 unfolding rows
@@ -71,11 +59,11 @@ profile-at-spec =
     Inv-loop
     μ-loop
     loop-holds
-    mul-p
-    array-copy-out-p
+    (λ mul-p. search needs)
+    (λ array-copy-out-p. search needs)
     returns
-    add-i
+    (λ add-i. search needs)
     loop-less
     loop-again
-    array-copy-out-result
+    (λ array-copy-out-result. search needs)
     returns-2)

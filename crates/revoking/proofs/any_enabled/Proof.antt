@@ -20,12 +20,6 @@ abbrev μ-loop : tie.MeasureT-loop
 loop-holds : tie.Need-loop-holds Inv-loop μ-loop
 loop-holds c = (omega arith, refl)
 
-slot-at-requires : tie.Need-slot-at-requires Inv-loop μ-loop
-slot-at-requires c κs = search needs
-
-is-enabled-requires : tie.Need-is-enabled-requires Inv-loop μ-loop
-is-enabled-requires c κs = search needs
-
 returns : tie.Need-returns Inv-loop μ-loop
 returns c =
     let r = c .before .before .slot-at in
@@ -33,12 +27,6 @@ returns c =
     let a = c .before .before .before .before .before .before .args in
     let e = sym (enabled-is (r .result) (slotOf (factsIn (a .image .now)) (l .k + 1)) (r .ensures)) ∙ sym (c .before .is-enabled .ensures) ∙ c .if1 .taken in
     any-hit (a .image .now) (l .k) (a .to) (omega arith) _ (l .inv .1) (omega arith) e
-
-add-k : tie.Need-add-k Inv-loop μ-loop
-add-k c = search needs
-
-loop-less : tie.Need-loop-less Inv-loop μ-loop
-loop-less c = search needs
 
 loop-again : tie.Need-loop-again Inv-loop μ-loop
 loop-again c =
@@ -61,10 +49,10 @@ any-enabled-spec =
     Inv-loop
     μ-loop
     loop-holds
-    slot-at-requires
-    is-enabled-requires
+    (λ slot-at-requires κs. search needs)
+    (λ is-enabled-requires κs. search needs)
     returns
-    add-k
-    loop-less
+    (λ add-k. search needs)
+    (λ loop-less. search needs)
     loop-again
     returns-2)

@@ -6,19 +6,10 @@ use Rattle.revoking.proofs.RevokeLaws.{other-before, other-after}
 use Rattle.revoking.proofs.other_enabled.Statement.{statement}
 use Rattle.revoking.proofs.other_enabled.Tie as tie
 
-any-enabled-requires : tie.Need-any-enabled-requires
-any-enabled-requires c κs = search needs
-
 returns : tie.Need-returns
 returns c =
     let a = c .before .before .before .args in
     other-before (a .image .now) (a .k) (omega arith) (sym (c .before .any-enabled .ensures) ∙ c .if1 .taken)
-
-add-any-enabled : tie.Need-add-any-enabled
-add-any-enabled c = search needs
-
-any-enabled-requires-2 : tie.Need-any-enabled-requires-2
-any-enabled-requires-2 c κs = search needs
 
 returns-2 : tie.Need-returns-2
 returns-2 c =
@@ -28,4 +19,4 @@ returns-2 c =
 pub other-enabled-spec : {M : Type 1} → statement M
 other-enabled-spec =
     tie.close
-    (tie.spec any-enabled-requires returns add-any-enabled any-enabled-requires-2 returns-2)
+    (tie.spec (λ any-enabled-requires κs. search needs) returns (λ add-any-enabled. search needs) (λ any-enabled-requires-2 κs. search needs) returns-2)

@@ -38,15 +38,6 @@ passed c = let s = start (judged c) in accepted _ (numbered-early (factsIn (s .a
 
 -- ---- needs
 
-header-check-requires : tie.Need-header-check-requires
-header-check-requires c κs = search needs
-
-number-of-requires : tie.Need-number-of-requires
-number-of-requires c κs = search needs
-
-same-length : tie.Need-same-length
-same-length c = search needs
-
 returns : tie.Need-returns
 returns c =
     let s = c .before .before .before .before .before .before in
@@ -56,12 +47,6 @@ returns c =
 
 revoke-check-requires : tie.Need-revoke-check-requires
 revoke-check-requires c κs = sound-header (c .before)
-
-number-of-requires-2 : tie.Need-number-of-requires-2
-number-of-requires-2 c κs = search needs
-
-same-length-2 : tie.Need-same-length-2
-same-length-2 c = search needs
 
 returns-2 : tie.Need-returns-2
 returns-2 c =
@@ -80,9 +65,6 @@ disable-slot-requires c κs =
     let q = passed p in
     (sound (a .image .now) (sound-header h) .size, q .0, filler-room (a .image .now) (sound-header h) (a .slot) (q .0) (a .filler .now) (q .1 .1 .1 .0))
 
-same-length-3 : tie.Need-same-length-3
-same-length-3 c = search needs
-
 returns-3 : tie.Need-returns-3
 unfolding answer done writes lateChecks
 returns-3 c =
@@ -98,14 +80,14 @@ pub revoke-spec : {M : Type 1} → statement M
 revoke-spec =
     tie.close
     (tie.spec
-    header-check-requires
-    number-of-requires
-    same-length
+    (λ header-check-requires κs. search needs)
+    (λ number-of-requires κs. search needs)
+    (λ same-length. search needs)
     returns
     revoke-check-requires
-    number-of-requires-2
-    same-length-2
+    (λ number-of-requires-2 κs. search needs)
+    (λ same-length-2. search needs)
     returns-2
     disable-slot-requires
-    same-length-3
+    (λ same-length-3. search needs)
     returns-3)

@@ -1,14 +1,14 @@
 -- `revoking::revoke_check` meets its contract: each way out is a check of the list.
-use mathlib.Core.Path.{_≡_, sym, _∙_}
+use mathlib.Core.Path.{_≡_}
 use mathlib.Core.List.{List}
 use mathlib.Core.Bool.{true}
 use native.Mathlib.Omega.{arith}
 use lib.ListN.{take}
-use borrow.Author.Tests.{not-true, not-false}
 use borrow.Author.Needs.{needs}
+use Rattle.octets.proofs.BoolLaws.{holds, fails}
 use Rattle.rules.specs.Checks.{Check}
 use Rattle.rules.specs.Calls.{revoke, earlyChecks, slotNumberOk}
-use Rattle.rules.proofs.ChecksLaws.{Pass, refused-by, all-pass}
+use Rattle.rules.proofs.ChecksLaws.{Pass, refused-by, all-pass, pass-next}
 use Rattle.rules.proofs.ArgumentLaws.{number-in}
 use Rattle.header.specs.Records.{factsIn}
 use Rattle.header.proofs.SoundLaws.{sound}
@@ -33,7 +33,7 @@ abbrev start-4 : tie.Else4 → tie.Start
 start-4 c = start-3 (c .before)
 
 number-ok : (c : tie.Else1) → slotNumberOk (start-1 c .args .slot) ≡ true
-number-ok c = sym (c .before .slot-number-ok .ensures) ∙ not-false (c .before .slot-number-ok .result) (c .if1 .left)
+number-ok c = holds (c .before .slot-number-ok .ensures) (c .if1 .left)
 
 pass-1 : (c : tie.Else1) → Pass (take 1 (list (start-1 c)))
 unfolding earlyChecks
@@ -41,41 +41,27 @@ pass-1 c = (number-ok c, tt)
 
 pass-2 : (c : tie.Else2) → Pass (take 2 (list (start-2 c)))
 unfolding earlyChecks
-pass-2 c = (pass-1 (c .before .before) .0, (sym (c .before .slot-enabled .ensures) ∙ not-false (c .before .slot-enabled .result) (c .if2 .left), tt))
+pass-2 c = pass-next (list (start-2 c)) 1 (pass-1 (c .before .before)) (holds (c .before .slot-enabled .ensures) (c .if2 .left))
 
 pass-3 : (c : tie.Else3) → Pass (take 3 (list (start-3 c)))
 unfolding earlyChecks
-pass-3 c =
-    let p = pass-2 (c .before .before .before) in
-    let t = c .before .before .other-enabled in
-    (p .0, (p .1 .0, (sym (t .ensures) ∙ not-false (t .result) (c .if3 .left), tt)))
+pass-3 c = pass-next (list (start-3 c)) 2 (pass-2 (c .before .before .before)) (holds (c .before .before .other-enabled .ensures) (c .if3 .left))
 
 -- ---- needs
 
-slot-number-ok-requires : tie.Need-slot-number-ok-requires
-slot-number-ok-requires c κs = search needs
-
 returns : tie.Need-returns
 unfolding earlyChecks
-returns c =
-    let t = c .before .slot-number-ok in
-    refused-by (list (c .before .before .before .before)) 0 tt (sym (t .ensures) ∙ not-true (t .result) (c .if1 .taken))
+returns c = refused-by _ 0 tt (fails (c .before .slot-number-ok .ensures) (c .if1 .taken))
 
 slot-enabled-requires : tie.Need-slot-enabled-requires
 slot-enabled-requires c κs = (start-1 c .pre, number-ok c)
 
 returns-2 : tie.Need-returns-2
 unfolding earlyChecks
-returns-2 c =
-    let t = c .before .slot-enabled in
-    let p = c .before .before in
-    refused-by (list (start-1 p)) 1 (pass-1 p) (sym (t .ensures) ∙ not-true (t .result) (c .if2 .taken))
+returns-2 c = refused-by _ 1 (pass-1 (c .before .before)) (fails (c .before .slot-enabled .ensures) (c .if2 .taken))
 
 sub-other-enabled : tie.Need-sub-other-enabled
 sub-other-enabled c = omega (arith, number-in (start-2 c .args .slot) (number-ok (c .before .before)) .0)
-
-cast-other-enabled : tie.Need-cast-other-enabled
-cast-other-enabled c = search needs
 
 other-enabled-requires : tie.Need-other-enabled-requires
 other-enabled-requires c κs =
@@ -88,35 +74,28 @@ filler-ok-requires c κs = let p = c .before in (start-2 p .pre, number-ok (p .b
 
 returns-3 : tie.Need-returns-3
 unfolding earlyChecks
-returns-3 c =
-    let t = c .before .before .other-enabled in
-    let p = c .before .before .before in
-    refused-by (list (start-2 p)) 2 (pass-2 p) (sym (t .ensures) ∙ not-true (t .result) (c .if3 .taken))
+returns-3 c = refused-by _ 2 (pass-2 (c .before .before .before)) (fails (c .before .before .other-enabled .ensures) (c .if3 .taken))
 
 returns-4 : tie.Need-returns-4
 unfolding earlyChecks
-returns-4 c =
-    let t = c .before .before .filler-ok in
-    let p = c .before in
-    refused-by (list (start-3 p)) 3 (pass-3 p) (sym (t .ensures) ∙ not-true (t .result) (c .if4 .taken))
+returns-4 c = refused-by _ 3 (pass-3 (c .before)) (fails (c .before .before .filler-ok .ensures) (c .if4 .taken))
 
 returns-5 : tie.Need-returns-5
 unfolding earlyChecks
 returns-5 c =
-    let t = c .before .before .filler-ok in
-    let p = pass-3 (c .before) in
-    all-pass (list (start-4 c)) (p .0, (p .1 .0, (p .1 .1 .0, (sym (t .ensures) ∙ not-false (t .result) (c .if4 .left), tt))))
+    let checks = list (start-4 c) in
+    all-pass checks (pass-next checks 3 (pass-3 (c .before)) (holds (c .before .before .filler-ok .ensures) (c .if4 .left)))
 
 pub revoke-check-spec : {M : Type 1} → statement M
 revoke-check-spec =
     tie.close
     (tie.spec
-    slot-number-ok-requires
+    (λ slot-number-ok-requires κs. search needs)
     returns
     slot-enabled-requires
     returns-2
     sub-other-enabled
-    cast-other-enabled
+    (λ cast-other-enabled. search needs)
     other-enabled-requires
     filler-ok-requires
     returns-3

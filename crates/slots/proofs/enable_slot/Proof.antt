@@ -1,20 +1,20 @@
 -- `slots::enable_slot` meets its contract: the area, lent and given back, is a splice of the image, and the head a second one.
 use mathlib.Core.Path.{_≡_, sym, ap, ap₂, _∙_}
-use mathlib.Core.List.{_++_}
+use mathlib.Core.List.{List, _++_}
 use Prim.Native.Nat.{ℕ, _+_, _-_, _*_, _≤_}
 use native.Mathlib.Omega.{arith}
 use lib.ListN.{length, take, drop}
 use borrow.Author.Tests.{eqb-true, leb-true}
 use borrow.Author.Needs.{needs}
-use Rattle.octets.specs.Splice.{part}
+use Rattle.octets.specs.Splice.{part, splice}
 use Rattle.octets.proofs.SpliceLaws.{length-part, length-splice, splice-part}
 use Rattle.rules.specs.Facts.{enabled, slotOf}
 use Rattle.rules.specs.Calls.{keyOk, countOk, randomOk}
-use Rattle.rules.proofs.ArgumentLaws.{number-in, passphrase-in}
-use Rattle.rules.proofs.FormatLaws.{length-recordHead}
+use Rattle.rules.specs.Step.{written, recordHead, slotWrites, enableWrites}
+use Rattle.rules.proofs.ArgumentLaws.{passphrase-in}
 use Rattle.header.specs.Records.{factsIn}
 use Rattle.header.proofs.SoundLaws.{Sound, sound}
-use Rattle.slots.proofs.AreaLaws.{area-small, area-fits, some-stripes, slot-enabled, record-fits}
+use Rattle.slots.proofs.AreaLaws.{area-small, area-fits, some-stripes, slot-written, material-is}
 use Rattle.slots.proofs.enable_slot.Statement.{statement}
 use Rattle.slots.proofs.enable_slot.Tie as tie
 
@@ -22,9 +22,6 @@ use Rattle.slots.proofs.enable_slot.Tie as tie
 
 good : (s : tie.Start) → Sound (s .args .image .now)
 good s = sound (s .args .image .now) (s .pre .0)
-
-in-range : (s : tie.Start) → (1 ≤ s .args .slot) × (s .args .slot ≤ 8)
-in-range s = number-in (s .args .slot) (s .pre .1)
 
 key-length : (s : tie.Start) → length (s .args .key .now) ≡ factsIn (s .args .image .now) .profile .keyBytes
 unfolding keyOk
@@ -57,7 +54,7 @@ room c =
     let s = start c in
     area-fits (s .args .image .now) (s .pre .0) (s .args .slot) (s .pre .1) (c .slot-of .result) (c .slot-of .ensures) (length (s .args .key .now)) (key-length s)
 
--- ---- where the area has been filled, and the new head made
+-- ---- where the area has been filled
 
 abbrev found : tie.After-fill → tie.After-slot-of
 found c = c .before .before .before .before .before
@@ -65,37 +62,23 @@ found c = c .before .before .before .before .before
 filled : (c : tie.After-fill) → length (c .fill .last .0) ≡ bytes (found c)
 filled c = search needs
 
-abbrev area : tie.After-record-head → tie.After-fill
-area c = c .before .before .before
-
-head-length : (c : tie.After-record-head) → length (c .record-head .result) ≡ 40
-head-length c = search needs
+-- the image with the area given back
+lent-back : (c : tie.After-fill) → let m = start (found c) .args .image .now in let at = found c .slot-of .result .start .0 * 512 in
+    take at m ++ (c .fill .last .0 ++ drop (at + bytes (found c) - at) (drop at m)) ≡ splice m at (c .fill .last .0)
+lent-back c =
+    let at = found c .slot-of .result .start .0 * 512 in
+    splice-part (start (found c) .args .image .now) (c .fill .last .0) at (at + bytes (found c)) (omega arith) (omega (arith, filled c))
 
 -- ---- needs
 
 slot-of-requires : tie.Need-slot-of-requires
 slot-of-requires c κs = let s = c .before .before .before .before .before in (good s .size, s .pre .1)
 
-cast-at : tie.Need-cast-at
-cast-at c = search needs
-
-mul-at : tie.Need-mul-at
-mul-at c = search needs
-
-cast-n : tie.Need-cast-n
-cast-n c = search needs
-
 mul-end : tie.Need-mul-end
 mul-end c = omega (arith, small (c .before .before))
 
 add-end : tie.Need-add-end
 add-end c = omega (arith, room (c .before .before), small (c .before .before))
-
-sub-fill : tie.Need-sub-fill
-sub-fill c = search needs
-
-part-fill-start : tie.Need-part-fill-start
-part-fill-start c = search needs
 
 part-fill-end : tie.Need-part-fill-end
 part-fill-end c = omega (arith, room (c .before .before))
@@ -122,76 +105,43 @@ fill-requires c κs =
       search needs,
     )
 
-record-head-requires : tie.Need-record-head-requires
-record-head-requires c κs = search needs
-
-sub-record-at : tie.Need-sub-record-at
-sub-record-at c = omega (arith, in-range (start (found (area c))) .0)
-
-cast-record-at : tie.Need-cast-record-at
-cast-record-at c = search needs
-
-record-at-requires : tie.Need-record-at-requires
-record-at-requires c κs = let r = in-range (start (found (area c))) in omega (arith, r .0, r .1)
-
-slice-aggregate-copy-into : tie.Need-slice-aggregate-copy-into
-slice-aggregate-copy-into c = search needs
-
-copy-into-requires : tie.Need-copy-into-requires
-copy-into-requires c κs =
-    let q = c .before .before in
-    let h = q .before in
-    let f = area h in
+put-head-requires : tie.Need-put-head-requires
+put-head-requires c κs =
+    let f = c .before .before .before in
     let p = found f in
     let s = start p in
-    let m = s .args .image .now in
-    let at = p .slot-of .result .start .0 * 512 in
     let y = f .fill .last .0 in
-    let l : length (take at m ++ (y ++ drop (at + bytes p - at) (drop at m))) ≡ length m =
-    ap length (splice-part m y at (at + bytes p) (omega arith) (omega (arith, filled f))) ∙ length-splice m at y (omega (arith, filled f, room p)) in
-    record-fits (s .args .slot) (in-range s .0) (in-range s .1) (q .record-at .ensures) (head-length h) l (good s .size)
-
-same-length : tie.Need-same-length
-same-length c = search needs
+    let at = p .slot-of .result .start .0 * 512 in
+    (omega (arith, ap length (lent-back f), length-splice (s .args .image .now) at y (omega (arith, filled f, room p)), good s .size), s .pre .1)
 
 returns : tie.Need-returns
+unfolding enableWrites
 returns c =
-    let e = c .before .before in
-    let q = e .before .before .before in
-    let h = q .before in
-    let f = area h in
+    let h = c .before .before in
+    let f = h .before .before .before .before in
     let p = found f in
     let s = start p in
     let a = s .args in
     let r = p .slot-of in
-    let at = r .result .start .0 * 512 in (
-      slot-enabled (a .image .now) (a .slot) (r .result .start .0) (r .ensures .start-is) (f .fill .last .0) (h .record-head .result) _ _
-          (splice-part (a .image .now) (f .fill .last .0) at (at + bytes p) (omega arith) (omega (arith, filled f)))
-          (q .record-at .result) (q .record-at .ensures) (e .copy-into .ensures)
-          (r .result .stripes) (length (a .key .now)) (a .count) (a .key .now) (a .passphrase .now) (a .salt .now) (a .random .now)
-          (r .ensures .stripes-is) (key-length s) (f .fill .ensures) (h .record-head .ensures),
-      omega (arith, head-length h, ap length (h .record-head .ensures), length-recordHead enabled (a .count) (a .salt .now)),
-    )
+    let e = material-is (a .image .now) (a .slot) (r .result .stripes) (length (a .key .now)) (a .count) (a .key .now) (a .passphrase .now) (a .salt .now) (a .random .now)
+    (f .fill .last .0) (r .ensures .stripes-is) (key-length s) (f .fill .ensures) in
+    let w = slot-written (a .image .now) (a .slot) (r .result .start .0) (r .ensures .start-is) (f .fill .last .0) _ _ _ (lent-back f) (h .put-head .ensures .0) in
+    (w ∙ ap (λ (x : List ℕ). written (slotWrites (factsIn (a .image .now)) (a .slot) x (recordHead enabled (a .count) (a .salt .now))) (a .image .now)) e, h .put-head .ensures .1)
 
 pub enable-slot-spec : {M : Type 1} → statement M
 enable-slot-spec =
     tie.close
     (tie.spec
     slot-of-requires
-    cast-at
-    mul-at
-    cast-n
+    (λ cast-at. search needs)
+    (λ mul-at. search needs)
+    (λ cast-n. search needs)
     mul-end
     add-end
-    sub-fill
-    part-fill-start
+    (λ sub-fill. search needs)
+    (λ part-fill-start. search needs)
     part-fill-end
     fill-requires
-    record-head-requires
-    sub-record-at
-    cast-record-at
-    record-at-requires
-    slice-aggregate-copy-into
-    copy-into-requires
-    same-length
+    put-head-requires
+    (λ same-length. search needs)
     returns)

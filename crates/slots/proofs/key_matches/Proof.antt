@@ -24,12 +24,6 @@ checksum-count-requires c κs = good (c .before .before) .size
 checksum-salt-requires : tie.Need-checksum-salt-requires
 checksum-salt-requires c κs = good (c .before .before .before) .size
 
-slice-aggregate-pbkdf2-sha1 : tie.Need-slice-aggregate-pbkdf2-sha1
-slice-aggregate-pbkdf2-sha1 c = search needs
-
-slice-aggregate-pbkdf2-sha1-2 : tie.Need-slice-aggregate-pbkdf2-sha1-2
-slice-aggregate-pbkdf2-sha1-2 c = search needs
-
 pbkdf2-sha1-requires : tie.Need-pbkdf2-sha1-requires
 pbkdf2-sha1-requires c κs =
     let p = c .before .before in
@@ -38,15 +32,6 @@ pbkdf2-sha1-requires c κs =
 
 checksum-requires : tie.Need-checksum-requires
 checksum-requires c κs = good (start (c .before .before .before .before)) .size
-
-slice-aggregate-equal : tie.Need-slice-aggregate-equal
-slice-aggregate-equal c = search needs
-
-slice-aggregate-equal-2 : tie.Need-slice-aggregate-equal-2
-slice-aggregate-equal-2 c = search needs
-
-equal-requires : tie.Need-equal-requires
-equal-requires c κs = search needs
 
 returns : tie.Need-returns
 returns c =
@@ -62,11 +47,11 @@ key-matches-spec =
     (tie.spec
     checksum-count-requires
     checksum-salt-requires
-    slice-aggregate-pbkdf2-sha1
-    slice-aggregate-pbkdf2-sha1-2
+    (λ slice-aggregate-pbkdf2-sha1. search needs)
+    (λ slice-aggregate-pbkdf2-sha1-2. search needs)
     pbkdf2-sha1-requires
     checksum-requires
-    slice-aggregate-equal
-    slice-aggregate-equal-2
-    equal-requires
+    (λ slice-aggregate-equal. search needs)
+    (λ slice-aggregate-equal-2. search needs)
+    (λ equal-requires κs. search needs)
     returns)

@@ -36,32 +36,14 @@ room c =
 slot-of-requires : tie.Need-slot-of-requires
 slot-of-requires c κs = let s = c .before .before .before in (good s .size, s .pre .1)
 
-cast-n : tie.Need-cast-n
-cast-n c = search needs
-
-cast-at : tie.Need-cast-at
-cast-at c = search needs
-
-mul-at : tie.Need-mul-at
-mul-at c = search needs
-
 mul-end : tie.Need-mul-end
 mul-end c = omega (arith, small (c .before .before))
 
 add-end : tie.Need-add-end
 add-end c = omega (arith, small (c .before .before))
 
-sub-candidate : tie.Need-sub-candidate
-sub-candidate c = search needs
-
-part-candidate-start : tie.Need-part-candidate-start
-part-candidate-start c = search needs
-
 part-candidate-end : tie.Need-part-candidate-end
 part-candidate-end c = omega (arith, room (c .before .before .before .before))
-
-slice-aggregate-candidate : tie.Need-slice-aggregate-candidate
-slice-aggregate-candidate c = search needs
 
 candidate-requires : tie.Need-candidate-requires
 candidate-requires c κs =
@@ -85,9 +67,6 @@ candidate-requires c κs =
       omega (arith, z),
     )
 
-same-length : tie.Need-same-length
-same-length c = search needs
-
 returns : tie.Need-returns
 returns c =
     let d = c .before .before in
@@ -104,15 +83,15 @@ slot-candidate-spec =
     tie.close
     (tie.spec
     slot-of-requires
-    cast-n
-    cast-at
-    mul-at
+    (λ cast-n. search needs)
+    (λ cast-at. search needs)
+    (λ mul-at. search needs)
     mul-end
     add-end
-    sub-candidate
-    part-candidate-start
+    (λ sub-candidate. search needs)
+    (λ part-candidate-start. search needs)
     part-candidate-end
-    slice-aggregate-candidate
+    (λ slice-aggregate-candidate. search needs)
     candidate-requires
-    same-length
+    (λ same-length. search needs)
     returns)

@@ -6,9 +6,8 @@ use Prim.Native.Nat.{ℕ}
 use native.Mathlib.Omega.{arith}
 use lib.ListN.{length, take, drop, replicate, length-append}
 use lib.Seq.{take-at, length-take-le}
-use borrow.Author.Tests.{not-true, not-false}
 use borrow.Author.Needs.{needs}
-use Rattle.octets.proofs.BoolLaws.{no}
+use Rattle.octets.proofs.BoolLaws.{holds, fails, no}
 use Rattle.rules.specs.Facts.{slotOf, isEnabled, candidate}
 use Rattle.header.specs.Records.{factsIn}
 use Rattle.header.proofs.SoundLaws.{sound}
@@ -25,7 +24,7 @@ abbrev start : tie.Else1 → tie.Start
 start c = c .before .before .before .before
 
 on : (c : tie.Else1) → isEnabled (slotOf (factsIn (start c .args .image .now)) (start c .args .slot)) ≡ true
-on c = sym (c .before .slot-enabled .ensures) ∙ not-false (c .before .slot-enabled .result) (c .if1 .left)
+on c = holds (c .before .slot-enabled .ensures) (c .if1 .left)
 
 -- ---- where the key's length has been read, and the candidate laid
 
@@ -40,24 +39,18 @@ laid c = let l = front (measured c) in search needs
 
 -- ---- needs
 
-slot-enabled-requires : tie.Need-slot-enabled-requires
-slot-enabled-requires c κs = search needs
-
 returns : tie.Need-returns
 returns c =
     let t = c .before .slot-enabled in
     let s = c .before .before .before .before in
     record {
-      opens-is = opens-off (factsIn (s .args .image .now)) (s .args .slot) (s .args .passphrase .now) (sym (t .ensures) ∙ not-true (t .result) (c .if1 .taken));
+      opens-is = opens-off (factsIn (s .args .image .now)) (s .args .slot) (s .args .passphrase .now) (fails (t .ensures) (c .if1 .taken));
       key-is = λ q. no q;
       length-is = λ q. no q;
     }
 
 key-bytes-requires : tie.Need-key-bytes-requires
 key-bytes-requires c κs = let s = start c in sound (s .args .image .now) (s .pre .0) .named
-
-cast-l : tie.Need-cast-l
-cast-l c = search needs
 
 array-borrow-prefix-key : tie.Need-array-borrow-prefix-key
 array-borrow-prefix-key c = omega (arith, c .key-bytes .ensures .1)
@@ -109,10 +102,10 @@ pub try-slot-spec : {M : Type 1} → statement M
 try-slot-spec =
     tie.close
     (tie.spec
-    slot-enabled-requires
+    (λ slot-enabled-requires κs. search needs)
     returns
     key-bytes-requires
-    cast-l
+    (λ cast-l. search needs)
     array-borrow-prefix-key
     slice-aggregate-slot-candidate
     slot-candidate-requires

@@ -6,17 +6,8 @@ use Rattle.splitter.specs.Diffuse.{diffuse}
 use Rattle.splitter.proofs.add_stripe.Statement.{statement}
 use Rattle.splitter.proofs.add_stripe.Tie as tie
 
-xor-into-requires : tie.Need-xor-into-requires
-xor-into-requires c κs = search needs
-
-diffuse-in-requires : tie.Need-diffuse-in-requires
-diffuse-in-requires c κs = search needs
-
-same-length : tie.Need-same-length
-same-length c = search needs
-
 returns : tie.Need-returns
 returns c = c .before .before .diffuse-in .ensures ∙ ap (diffuse sha1) (c .before .before .before .before .before .before .xor-into .ensures)
 
 pub add-stripe-spec : {M : Type 1} → statement M
-add-stripe-spec = tie.close (tie.spec xor-into-requires diffuse-in-requires same-length returns)
+add-stripe-spec = tie.close (tie.spec (λ xor-into-requires κs. search needs) (λ diffuse-in-requires κs. search needs) (λ same-length. search needs) returns)

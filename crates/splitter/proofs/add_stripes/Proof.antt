@@ -30,26 +30,11 @@ add-e c =
     let l = c .before .loop in
     omega (arith, stripe-inside (length (a .d .now)) (l .m) (a .count) (omega arith))
 
-sub-add-stripe : tie.Need-sub-add-stripe Inv-loop μ-loop
-sub-add-stripe c = search needs
-
-part-add-stripe-start : tie.Need-part-add-stripe-start Inv-loop μ-loop
-part-add-stripe-start c = search needs
-
 part-add-stripe-end : tie.Need-part-add-stripe-end Inv-loop μ-loop
 part-add-stripe-end c =
     let a = c .before .before .before .before .before .args in
     let l = c .before .before .loop in
     omega (arith, stripe-inside (length (a .d .now)) (l .m) (a .count) (omega arith))
-
-add-stripe-requires : tie.Need-add-stripe-requires Inv-loop μ-loop
-add-stripe-requires c κs = search needs
-
-add-m : tie.Need-add-m Inv-loop μ-loop
-add-m c = search needs
-
-loop-less : tie.Need-loop-less Inv-loop μ-loop
-loop-less c = search needs
 
 loop-again : tie.Need-loop-again Inv-loop μ-loop
 loop-again c =
@@ -64,9 +49,6 @@ loop-again c =
       running-step (diffuse sha1) L (l .m) (a .count) (l .at) (l .d) (y .last .0) (a .stripes .now) (running (diffuse sha1) L (a .d .now) (a .count) (a .stripes .now)) (omega arith)
           (y .ensures ∙ ap (λ (n : ℕ). diffuse sha1 (xors (l .d) (take n (drop (l .at) (a .stripes .now))))) k) (l .inv .3),
     )
-
-same-length : tie.Need-same-length Inv-loop μ-loop
-same-length c = search needs
 
 returns : tie.Need-returns Inv-loop μ-loop
 returns c =
@@ -83,12 +65,12 @@ add-stripes-spec =
     μ-loop
     loop-holds
     add-e
-    sub-add-stripe
-    part-add-stripe-start
+    (λ sub-add-stripe. search needs)
+    (λ part-add-stripe-start. search needs)
     part-add-stripe-end
-    add-stripe-requires
-    add-m
-    loop-less
+    (λ add-stripe-requires κs. search needs)
+    (λ add-m. search needs)
+    (λ loop-less. search needs)
     loop-again
-    same-length
+    (λ same-length. search needs)
     returns)

@@ -11,24 +11,6 @@ use Rattle.splitter.proofs.FoursLaws.{diffused}
 use Rattle.splitter.proofs.diffuse_64.Statement.{statement}
 use Rattle.splitter.proofs.diffuse_64.Tie as tie
 
-load-pieces-requires : tie.Need-load-pieces-requires
-load-pieces-requires c κs = search needs
-
-start-requires : tie.Need-start-requires
-start-requires c κs = search needs
-
-broadcast-requires : tie.Need-broadcast-requires
-broadcast-requires c κs = search needs
-
-compress-requires : tie.Need-compress-requires
-compress-requires c κs = search needs
-
-store-requires : tie.Need-store-requires
-store-requires c κs = search needs
-
-array-share-prefix-b : tie.Need-array-share-prefix-b
-array-share-prefix-b c = search needs
-
 slice-aggregate-copy-into : tie.Need-slice-aggregate-copy-into
 slice-aggregate-copy-into c =
     let b = c .before .before .store .result in
@@ -40,9 +22,6 @@ copy-into-requires c κs =
     let b = c .before .before .store .result in
     let l : length b ≡ 80 = search needs in
     omega (arith, length-take-le 64 b (omega arith))
-
-same-length : tie.Need-same-length
-same-length c = search needs
 
 returns : tie.Need-returns
 returns c =
@@ -63,13 +42,13 @@ pub diffuse-64-spec : {M : Type 1} → statement M
 diffuse-64-spec =
     tie.close
     (tie.spec
-    load-pieces-requires
-    start-requires
-    broadcast-requires
-    compress-requires
-    store-requires
-    array-share-prefix-b
+    (λ load-pieces-requires κs. search needs)
+    (λ start-requires κs. search needs)
+    (λ broadcast-requires κs. search needs)
+    (λ compress-requires κs. search needs)
+    (λ store-requires κs. search needs)
+    (λ array-share-prefix-b. search needs)
     slice-aggregate-copy-into
     copy-into-requires
-    same-length
+    (λ same-length. search needs)
     returns)

@@ -23,30 +23,6 @@ loop-holds : tie.Need-loop-holds Inv-loop μ-loop
 unfolding diffuse
 loop-holds c = (omega arith, omega arith, refl, refl)
 
-sub-min : tie.Need-sub-min Inv-loop μ-loop
-sub-min c = search needs
-
-min-requires : tie.Need-min-requires Inv-loop μ-loop
-min-requires c κs = search needs
-
-add-e : tie.Need-add-e Inv-loop μ-loop
-add-e c = search needs
-
-sub-numbered-digest : tie.Need-sub-numbered-digest Inv-loop μ-loop
-sub-numbered-digest c = search needs
-
-part-numbered-digest-start : tie.Need-part-numbered-digest-start Inv-loop μ-loop
-part-numbered-digest-start c = search needs
-
-part-numbered-digest-end : tie.Need-part-numbered-digest-end Inv-loop μ-loop
-part-numbered-digest-end c = search needs
-
-numbered-digest-requires : tie.Need-numbered-digest-requires Inv-loop μ-loop
-numbered-digest-requires c κs = search needs
-
-array-share-prefix-h : tie.Need-array-share-prefix-h Inv-loop μ-loop
-array-share-prefix-h c = search needs
-
 slice-aggregate-copy-into : tie.Need-slice-aggregate-copy-into Inv-loop μ-loop
 slice-aggregate-copy-into c =
     let h = c .before .before .numbered-digest .result in
@@ -62,12 +38,6 @@ copy-into-requires c κs =
     let k = length-take-le (n .result) h (omega (arith, n .ensures)) in
     omega (arith, k, n .ensures)
 
-add-i : tie.Need-add-i Inv-loop μ-loop
-add-i c = search needs
-
-loop-less : tie.Need-loop-less Inv-loop μ-loop
-loop-less c = search needs
-
 loop-again : tie.Need-loop-again Inv-loop μ-loop
 loop-again c =
     let l = c .before .before .before .before .before .before .before .before .before .before .loop in
@@ -82,9 +52,6 @@ loop-again c =
           (n .ensures ∙ ap (λ (k : ℕ). min 20 (k - l .at)) (sym (l .inv .2))) (search needs) (h .ensures) (c .before .before .copy-into .ensures) (l .inv .3),
     )
 
-same-length : tie.Need-same-length Inv-loop μ-loop
-same-length c = search needs
-
 returns : tie.Need-returns Inv-loop μ-loop
 returns c =
     let l = c .before .loop in
@@ -97,18 +64,18 @@ diffuse-pieces-spec =
     Inv-loop
     μ-loop
     loop-holds
-    sub-min
-    min-requires
-    add-e
-    sub-numbered-digest
-    part-numbered-digest-start
-    part-numbered-digest-end
-    numbered-digest-requires
-    array-share-prefix-h
+    (λ sub-min. search needs)
+    (λ min-requires κs. search needs)
+    (λ add-e. search needs)
+    (λ sub-numbered-digest. search needs)
+    (λ part-numbered-digest-start. search needs)
+    (λ part-numbered-digest-end. search needs)
+    (λ numbered-digest-requires κs. search needs)
+    (λ array-share-prefix-h. search needs)
     slice-aggregate-copy-into
     copy-into-requires
-    add-i
-    loop-less
+    (λ add-i. search needs)
+    (λ loop-less. search needs)
     loop-again
-    same-length
+    (λ same-length. search needs)
     returns)

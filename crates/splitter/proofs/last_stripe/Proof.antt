@@ -11,20 +11,11 @@ use Rattle.splitter.proofs.StripesLaws.{last-stripe-is}
 use Rattle.splitter.proofs.last_stripe.Statement.{statement}
 use Rattle.splitter.proofs.last_stripe.Tie as tie
 
-clear-requires : tie.Need-clear-requires
-clear-requires c κs = search needs
-
 add-stripes-requires : tie.Need-add-stripes-requires
 add-stripes-requires c κs =
     let a = c .before .before .before .before .before .before .before .before .args in
     let l : length (c .before .before .before .clear .last .0) ≡ length (a .key .now) = search needs in
     (omega arith, omega (arith, ap (λ (n : ℕ). a .m * n) l))
-
-xor-into-requires : tie.Need-xor-into-requires
-xor-into-requires c κs = search needs
-
-same-length : tie.Need-same-length
-same-length c = search needs
 
 returns : tie.Need-returns
 returns c =
@@ -37,4 +28,4 @@ returns c =
 
 pub last-stripe-spec : {M : Type 1} → statement M
 last-stripe-spec =
-    tie.close (tie.spec clear-requires add-stripes-requires xor-into-requires same-length returns)
+    tie.close (tie.spec (λ clear-requires κs. search needs) add-stripes-requires (λ xor-into-requires κs. search needs) (λ same-length. search needs) returns)

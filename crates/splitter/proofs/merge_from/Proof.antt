@@ -11,9 +11,6 @@ use Rattle.splitter.proofs.StripesLaws.{mergeFrom-is}
 use Rattle.splitter.proofs.merge_from.Statement.{statement}
 use Rattle.splitter.proofs.merge_from.Tie as tie
 
-sub-k : tie.Need-sub-k
-sub-k c = search needs
-
 slice-aggregate-add-stripes : tie.Need-slice-aggregate-add-stripes
 slice-aggregate-add-stripes c =
     let a = c .before .before .before .before .args in
@@ -24,21 +21,6 @@ add-stripes-requires c κs =
     let a = c .before .before .before .before .args in
     let k = length-take-le (length (a .stripes .now) - length (a .d .now)) (a .stripes .now) (omega arith) in
     (omega arith, omega (arith, k))
-
-sub-xor-into : tie.Need-sub-xor-into
-sub-xor-into c = search needs
-
-part-xor-into-start : tie.Need-part-xor-into-start
-part-xor-into-start c = search needs
-
-part-xor-into-end : tie.Need-part-xor-into-end
-part-xor-into-end c = search needs
-
-xor-into-requires : tie.Need-xor-into-requires
-xor-into-requires c κs = search needs
-
-same-length : tie.Need-same-length
-same-length c = search needs
 
 returns : tie.Need-returns
 returns c =
@@ -51,12 +33,12 @@ pub merge-from-spec : {M : Type 1} → statement M
 merge-from-spec =
     tie.close
     (tie.spec
-    sub-k
+    (λ sub-k. search needs)
     slice-aggregate-add-stripes
     add-stripes-requires
-    sub-xor-into
-    part-xor-into-start
-    part-xor-into-end
-    xor-into-requires
-    same-length
+    (λ sub-xor-into. search needs)
+    (λ part-xor-into-start. search needs)
+    (λ part-xor-into-end. search needs)
+    (λ xor-into-requires κs. search needs)
+    (λ same-length. search needs)
     returns)

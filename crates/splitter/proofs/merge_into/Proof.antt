@@ -10,20 +10,11 @@ use Rattle.splitter.proofs.StripesLaws.{merge-is}
 use Rattle.splitter.proofs.merge_into.Statement.{statement}
 use Rattle.splitter.proofs.merge_into.Tie as tie
 
-clear-requires : tie.Need-clear-requires
-clear-requires c κs = search needs
-
-sub-merge-from : tie.Need-sub-merge-from
-sub-merge-from c = search needs
-
 merge-from-requires : tie.Need-merge-from-requires
 merge-from-requires c κs =
     let a = c .before .before .before .before .before .before .before .args in
     let l : length (c .before .before .before .clear .last .0) ≡ length (a .d .now) = search needs in
     (omega (arith, ap (λ (n : ℕ). (a .n - 1) * n) l), omega arith)
-
-same-length : tie.Need-same-length
-same-length c = search needs
 
 returns : tie.Need-returns
 returns c =
@@ -34,4 +25,4 @@ returns c =
 
 pub merge-into-spec : {M : Type 1} → statement M
 merge-into-spec =
-    tie.close (tie.spec clear-requires sub-merge-from merge-from-requires same-length returns)
+    tie.close (tie.spec (λ clear-requires κs. search needs) (λ sub-merge-from. search needs) merge-from-requires (λ same-length. search needs) returns)

@@ -12,30 +12,6 @@ use Rattle.splitter.proofs.DiffuseLaws.{put-two}
 use Rattle.splitter.proofs.numbered_digest.Statement.{statement}
 use Rattle.splitter.proofs.numbered_digest.Tie as tie
 
-be32-requires : tie.Need-be32-requires
-be32-requires c κs = search needs
-
-slice-aggregate-copy-into : tie.Need-slice-aggregate-copy-into
-slice-aggregate-copy-into c = search needs
-
-slice-aggregate-copy-into-2 : tie.Need-slice-aggregate-copy-into-2
-slice-aggregate-copy-into-2 c = search needs
-
-copy-into-requires : tie.Need-copy-into-requires
-copy-into-requires c κs = search needs
-
-slice-aggregate-copy-into-3 : tie.Need-slice-aggregate-copy-into-3
-slice-aggregate-copy-into-3 c = search needs
-
-copy-into-requires-2 : tie.Need-copy-into-requires-2
-copy-into-requires-2 c κs = search needs
-
-add-e : tie.Need-add-e
-add-e c = search needs
-
-array-share-prefix-b : tie.Need-array-share-prefix-b
-array-share-prefix-b c = search needs
-
 slice-aggregate-sha1 : tie.Need-slice-aggregate-sha1
 slice-aggregate-sha1 c =
     let P = c .before .before .before .before .before .before .before .before .before .before .args .piece .now in
@@ -65,14 +41,14 @@ pub numbered-digest-spec : {M : Type 1} → statement M
 numbered-digest-spec =
     tie.close
     (tie.spec
-    be32-requires
-    slice-aggregate-copy-into
-    slice-aggregate-copy-into-2
-    copy-into-requires
-    slice-aggregate-copy-into-3
-    copy-into-requires-2
-    add-e
-    array-share-prefix-b
+    (λ be32-requires κs. search needs)
+    (λ slice-aggregate-copy-into. search needs)
+    (λ slice-aggregate-copy-into-2. search needs)
+    (λ copy-into-requires κs. search needs)
+    (λ slice-aggregate-copy-into-3. search needs)
+    (λ copy-into-requires-2 κs. search needs)
+    (λ add-e. search needs)
+    (λ array-share-prefix-b. search needs)
     slice-aggregate-sha1
     sha1-requires
     returns)

@@ -10,27 +10,6 @@ use Rattle.splitter.proofs.StripesLaws.{split-is}
 use Rattle.splitter.proofs.split_into.Statement.{statement}
 use Rattle.splitter.proofs.split_into.Tie as tie
 
-copy-into-requires : tie.Need-copy-into-requires
-copy-into-requires c κs = search needs
-
-sub-last-stripe : tie.Need-sub-last-stripe
-sub-last-stripe c = search needs
-
-part-last-stripe-start : tie.Need-part-last-stripe-start
-part-last-stripe-start c = search needs
-
-part-last-stripe-end : tie.Need-part-last-stripe-end
-part-last-stripe-end c = search needs
-
-sub-last-stripe-2 : tie.Need-sub-last-stripe-2
-sub-last-stripe-2 c = search needs
-
-last-stripe-requires : tie.Need-last-stripe-requires
-last-stripe-requires c κs = search needs
-
-same-length : tie.Need-same-length
-same-length c = search needs
-
 returns : tie.Need-returns
 returns c =
     let a = c .before .before .before .before .before .before .before .before .before .before .before .args in
@@ -44,11 +23,11 @@ pub split-into-spec : {M : Type 1} → statement M
 split-into-spec =
     tie.close
     (tie.spec
-    copy-into-requires
-    sub-last-stripe
-    part-last-stripe-start
-    part-last-stripe-end
-    sub-last-stripe-2
-    last-stripe-requires
-    same-length
+    (λ copy-into-requires κs. search needs)
+    (λ sub-last-stripe. search needs)
+    (λ part-last-stripe-start. search needs)
+    (λ part-last-stripe-end. search needs)
+    (λ sub-last-stripe-2. search needs)
+    (λ last-stripe-requires κs. search needs)
+    (λ same-length. search needs)
     returns)

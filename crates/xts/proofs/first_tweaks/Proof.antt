@@ -24,66 +24,12 @@ loop-holds c =
     let z : List ℕ = replicate 128 0 in
     (omega arith, stored-none (λ m. unitBlock ((c .before .args .first + m) % 2 ^ 64)) z refl)
 
-wrapping-add-u64-requires : tie.Need-wrapping-add-u64-requires Inv-loop μ-loop
-wrapping-add-u64-requires c κs = search needs
-
-mul-k : tie.Need-mul-k Inv-loop μ-loop
-mul-k c = search needs
-
-cast-q : tie.Need-cast-q Inv-loop μ-loop
-cast-q c = search needs
-
-mul-q : tie.Need-mul-q Inv-loop μ-loop
-mul-q c = search needs
-
-array-write-q : tie.Need-array-write-q Inv-loop μ-loop
-array-write-q c = search needs
-
-cast-q-2 : tie.Need-cast-q-2 Inv-loop μ-loop
-cast-q-2 c = search needs
-
-add-q : tie.Need-add-q Inv-loop μ-loop
-add-q c = search needs
-
-mul-q-2 : tie.Need-mul-q-2 Inv-loop μ-loop
-mul-q-2 c = search needs
-
-array-write-q-2 : tie.Need-array-write-q-2 Inv-loop μ-loop
-array-write-q-2 c = search needs
-
-add-q-2 : tie.Need-add-q-2 Inv-loop μ-loop
-add-q-2 c = search needs
-
-mul-q-3 : tie.Need-mul-q-3 Inv-loop μ-loop
-mul-q-3 c = search needs
-
-array-write-q-3 : tie.Need-array-write-q-3 Inv-loop μ-loop
-array-write-q-3 c = search needs
-
-add-q-3 : tie.Need-add-q-3 Inv-loop μ-loop
-add-q-3 c = search needs
-
-mul-q-4 : tie.Need-mul-q-4 Inv-loop μ-loop
-mul-q-4 c = search needs
-
-array-write-q-4 : tie.Need-array-write-q-4 Inv-loop μ-loop
-array-write-q-4 c = search needs
-
-add-b : tie.Need-add-b Inv-loop μ-loop
-add-b c = search needs
-
-loop-less : tie.Need-loop-less Inv-loop μ-loop
-loop-less c = search needs
-
 loop-again : tie.Need-loop-again Inv-loop μ-loop
 loop-again c =
     let l = c .before .before .loop in
     let f = c .before .before .before .before .args .first in
     let m = c .wrapping-add-u64 .result in
     (omega arith, stored-more (λ m. unitBlock ((f + m) % 2 ^ 64)) (l .q) (l .b) _ _ _ _ (search needs) (four-words m 0 ∙ unit-tweak m ∙ ap unitBlock (c .wrapping-add-u64 .ensures)) (l .inv .1))
-
-encrypt-blocks-requires : tie.Need-encrypt-blocks-requires Inv-loop μ-loop
-encrypt-blocks-requires c κs = search needs
 
 returns : tie.Need-returns Inv-loop μ-loop
 unfolding Firsts
@@ -99,23 +45,23 @@ first-tweaks-spec =
     Inv-loop
     μ-loop
     loop-holds
-    wrapping-add-u64-requires
-    mul-k
-    cast-q
-    mul-q
-    array-write-q
-    cast-q-2
-    add-q
-    mul-q-2
-    array-write-q-2
-    add-q-2
-    mul-q-3
-    array-write-q-3
-    add-q-3
-    mul-q-4
-    array-write-q-4
-    add-b
-    loop-less
+    (λ wrapping-add-u64-requires κs. search needs)
+    (λ mul-k. search needs)
+    (λ cast-q. search needs)
+    (λ mul-q. search needs)
+    (λ array-write-q. search needs)
+    (λ cast-q-2. search needs)
+    (λ add-q. search needs)
+    (λ mul-q-2. search needs)
+    (λ array-write-q-2. search needs)
+    (λ add-q-2. search needs)
+    (λ mul-q-3. search needs)
+    (λ array-write-q-3. search needs)
+    (λ add-q-3. search needs)
+    (λ mul-q-4. search needs)
+    (λ array-write-q-4. search needs)
+    (λ add-b. search needs)
+    (λ loop-less. search needs)
     loop-again
-    encrypt-blocks-requires
+    (λ encrypt-blocks-requires κs. search needs)
     returns)

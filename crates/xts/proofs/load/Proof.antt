@@ -18,30 +18,6 @@ abbrev μ-loop : tie.MeasureT-loop
 loop-holds : tie.Need-loop-holds Inv-loop μ-loop
 loop-holds c = (omega arith, loaded-none (c .before .args .s .now) (c .before .args .q .now) (c .before .pre .0))
 
-mul-column-at : tie.Need-mul-column-at Inv-loop μ-loop
-mul-column-at c = search needs
-
-column-at-requires : tie.Need-column-at-requires Inv-loop μ-loop
-column-at-requires c κs = search needs
-
-mul-q : tie.Need-mul-q Inv-loop μ-loop
-mul-q c = search needs
-
-element-copy-out-q : tie.Need-element-copy-out-q Inv-loop μ-loop
-element-copy-out-q c = search needs
-
-mul-q-2 : tie.Need-mul-q-2 Inv-loop μ-loop
-mul-q-2 c = search needs
-
-element-write-q : tie.Need-element-write-q Inv-loop μ-loop
-element-write-q c = search needs
-
-add-j : tie.Need-add-j Inv-loop μ-loop
-add-j c = search needs
-
-loop-less : tie.Need-loop-less Inv-loop μ-loop
-loop-less c = search needs
-
 loop-again : tie.Need-loop-again Inv-loop μ-loop
 loop-again c =
     let l = c .before .before .before .loop in
@@ -63,13 +39,13 @@ load-spec =
     Inv-loop
     μ-loop
     loop-holds
-    mul-column-at
-    column-at-requires
-    mul-q
-    element-copy-out-q
-    mul-q-2
-    element-write-q
-    add-j
-    loop-less
+    (λ mul-column-at. search needs)
+    (λ column-at-requires κs. search needs)
+    (λ mul-q. search needs)
+    (λ element-copy-out-q. search needs)
+    (λ mul-q-2. search needs)
+    (λ element-write-q. search needs)
+    (λ add-j. search needs)
+    (λ loop-less. search needs)
     loop-again
     returns)

@@ -9,21 +9,6 @@ use borrow.Author.Needs.{needs}
 use Rattle.xts.proofs.run_blocks.Statement.{statement}
 use Rattle.xts.proofs.run_blocks.Tie as tie
 
-tweaks-requires : tie.Need-tweaks-requires
-tweaks-requires c κs = search needs
-
-load-requires : tie.Need-load-requires
-load-requires c κs = search needs
-
-run-cipher-requires : tie.Need-run-cipher-requires
-run-cipher-requires c κs = search needs
-
-store-requires : tie.Need-store-requires
-store-requires c κs = search needs
-
-same-length : tie.Need-same-length
-same-length c = search needs
-
 returns : tie.Need-returns
 returns c =
     let z = c .before .before .before .before .before .before .before .before .before .before .before .before .before .before in
@@ -41,4 +26,10 @@ returns c =
 pub run-blocks-spec : {M : Type 1} → statement M
 run-blocks-spec =
     tie.close
-    (tie.spec tweaks-requires load-requires run-cipher-requires store-requires same-length returns)
+    (tie.spec
+    (λ tweaks-requires κs. search needs)
+    (λ load-requires κs. search needs)
+    (λ run-cipher-requires κs. search needs)
+    (λ store-requires κs. search needs)
+    (λ same-length. search needs)
+    returns)

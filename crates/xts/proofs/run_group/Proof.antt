@@ -20,38 +20,8 @@ Inv-loop s₀ first forward ks vs n t len at₀ s at =
 abbrev μ-loop : tie.MeasureT-loop
 μ-loop s₀ first forward ks vs n t len at₀ s at = length s₀ - at
 
-first-tweaks-requires : tie.Need-first-tweaks-requires Inv-loop μ-loop
-first-tweaks-requires c κs = search needs
-
 loop-holds : tie.Need-loop-holds Inv-loop μ-loop
 loop-holds c = (omega arith, omega arith, refl, λ f g. from-first f (c .before .before .before .before .args .first) (c .before .before .before .before .args .s .now))
-
-tweak-at-requires : tie.Need-tweak-at-requires Inv-loop μ-loop
-tweak-at-requires c κs = search needs
-
-sub-min : tie.Need-sub-min Inv-loop μ-loop
-sub-min c = search needs
-
-min-requires : tie.Need-min-requires Inv-loop μ-loop
-min-requires c κs = search needs
-
-add-e : tie.Need-add-e Inv-loop μ-loop
-add-e c = search needs
-
-sub-run-blocks : tie.Need-sub-run-blocks Inv-loop μ-loop
-sub-run-blocks c = search needs
-
-part-run-blocks-start : tie.Need-part-run-blocks-start Inv-loop μ-loop
-part-run-blocks-start c = search needs
-
-part-run-blocks-end : tie.Need-part-run-blocks-end Inv-loop μ-loop
-part-run-blocks-end c = search needs
-
-run-blocks-requires : tie.Need-run-blocks-requires Inv-loop μ-loop
-run-blocks-requires c κs = search needs
-
-loop-less : tie.Need-loop-less Inv-loop μ-loop
-loop-less c = search needs
 
 loop-again : tie.Need-loop-again Inv-loop μ-loop
 loop-again c =
@@ -75,9 +45,6 @@ loop-again c =
           (t .ensures) (omega arith) refl (omega arith) (x .ensures) (y .ensures)),
     )
 
-same-length : tie.Need-same-length Inv-loop μ-loop
-same-length c = search needs
-
 returns : tie.Need-returns Inv-loop μ-loop
 returns c =
     let l = c .before .loop in
@@ -90,17 +57,17 @@ run-group-spec =
     (tie.spec
     Inv-loop
     μ-loop
-    first-tweaks-requires
+    (λ first-tweaks-requires κs. search needs)
     loop-holds
-    tweak-at-requires
-    sub-min
-    min-requires
-    add-e
-    sub-run-blocks
-    part-run-blocks-start
-    part-run-blocks-end
-    run-blocks-requires
-    loop-less
+    (λ tweak-at-requires κs. search needs)
+    (λ sub-min. search needs)
+    (λ min-requires κs. search needs)
+    (λ add-e. search needs)
+    (λ sub-run-blocks. search needs)
+    (λ part-run-blocks-start. search needs)
+    (λ part-run-blocks-end. search needs)
+    (λ run-blocks-requires κs. search needs)
+    (λ loop-less. search needs)
     loop-again
-    same-length
+    (λ same-length. search needs)
     returns)

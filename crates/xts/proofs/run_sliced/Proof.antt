@@ -23,33 +23,6 @@ abbrev μ-loop : tie.MeasureT-loop
 loop-holds : tie.Need-loop-holds Inv-loop μ-loop
 loop-holds c = (omega arith, omega arith, refl, λ f g. from-first f (c .before .before .before .args .first) (c .before .before .before .args .s .now))
 
-add-u : tie.Need-add-u Inv-loop μ-loop
-add-u c = search needs
-
-sub-min : tie.Need-sub-min Inv-loop μ-loop
-sub-min c = search needs
-
-min-requires : tie.Need-min-requires Inv-loop μ-loop
-min-requires c κs = search needs
-
-add-e : tie.Need-add-e Inv-loop μ-loop
-add-e c = search needs
-
-sub-run-group : tie.Need-sub-run-group Inv-loop μ-loop
-sub-run-group c = search needs
-
-part-run-group-start : tie.Need-part-run-group-start Inv-loop μ-loop
-part-run-group-start c = search needs
-
-part-run-group-end : tie.Need-part-run-group-end Inv-loop μ-loop
-part-run-group-end c = search needs
-
-run-group-requires : tie.Need-run-group-requires Inv-loop μ-loop
-run-group-requires c κs = search needs
-
-loop-less : tie.Need-loop-less Inv-loop μ-loop
-loop-less c = search needs
-
 loop-again : tie.Need-loop-again Inv-loop μ-loop
 loop-again c =
     let z = c .before .before .before .before .before .before .before .before .before .before in
@@ -68,9 +41,6 @@ loop-again c =
           (y .ensures f g),
     )
 
-same-length : tie.Need-same-length Inv-loop μ-loop
-same-length c = search needs
-
 returns : tie.Need-returns Inv-loop μ-loop
 returns c =
     let l = c .before .loop in
@@ -84,15 +54,15 @@ run-sliced-spec =
     Inv-loop
     μ-loop
     loop-holds
-    add-u
-    sub-min
-    min-requires
-    add-e
-    sub-run-group
-    part-run-group-start
-    part-run-group-end
-    run-group-requires
-    loop-less
+    (λ add-u. search needs)
+    (λ sub-min. search needs)
+    (λ min-requires κs. search needs)
+    (λ add-e. search needs)
+    (λ sub-run-group. search needs)
+    (λ part-run-group-start. search needs)
+    (λ part-run-group-end. search needs)
+    (λ run-group-requires κs. search needs)
+    (λ loop-less. search needs)
     loop-again
-    same-length
+    (λ same-length. search needs)
     returns)

@@ -8,41 +8,17 @@ use borrow.Author.Needs.{needs}
 use Rattle.xts.proofs.run_units.Statement.{statement}
 use Rattle.xts.proofs.run_units.Tie as tie
 
-slice-aggregate-slice-keys : tie.Need-slice-aggregate-slice-keys
-slice-aggregate-slice-keys c = search needs
-
-add-slice-keys : tie.Need-add-slice-keys
-add-slice-keys c = search needs
-
 slice-keys-requires : tie.Need-slice-keys-requires
 slice-keys-requires c κs =
     let s = c .before .before .before .before in
     let l : length (s .args .keys .blocks) ≡ 240 = search needs in
     (omega (arith, s .pre .2 .room), omega (arith, s .pre .2 .room))
 
-slice-aggregate-slice-keys-2 : tie.Need-slice-aggregate-slice-keys-2
-slice-aggregate-slice-keys-2 c = search needs
-
-add-slice-keys-2 : tie.Need-add-slice-keys-2
-add-slice-keys-2 c = search needs
-
 slice-keys-requires-2 : tie.Need-slice-keys-requires-2
 slice-keys-requires-2 c κs =
     let s = c .before .before .before .before .before .before in
     let l : length (s .args .keys .tweaks) ≡ 240 = search needs in
     (omega (arith, s .pre .2 .room), omega (arith, s .pre .2 .room))
-
-slice-aggregate-run-sliced : tie.Need-slice-aggregate-run-sliced
-slice-aggregate-run-sliced c = search needs
-
-slice-aggregate-run-sliced-2 : tie.Need-slice-aggregate-run-sliced-2
-slice-aggregate-run-sliced-2 c = search needs
-
-run-sliced-requires : tie.Need-run-sliced-requires
-run-sliced-requires c κs = search needs
-
-same-length : tie.Need-same-length
-same-length c = search needs
 
 returns : tie.Need-returns
 returns c =
@@ -55,14 +31,14 @@ pub run-units-spec : {M : Type 1} → statement M
 run-units-spec =
     tie.close
     (tie.spec
-    slice-aggregate-slice-keys
-    add-slice-keys
+    (λ slice-aggregate-slice-keys. search needs)
+    (λ add-slice-keys. search needs)
     slice-keys-requires
-    slice-aggregate-slice-keys-2
-    add-slice-keys-2
+    (λ slice-aggregate-slice-keys-2. search needs)
+    (λ add-slice-keys-2. search needs)
     slice-keys-requires-2
-    slice-aggregate-run-sliced
-    slice-aggregate-run-sliced-2
-    run-sliced-requires
-    same-length
+    (λ slice-aggregate-run-sliced. search needs)
+    (λ slice-aggregate-run-sliced-2. search needs)
+    (λ run-sliced-requires κs. search needs)
+    (λ same-length. search needs)
     returns)

@@ -18,36 +18,6 @@ abbrev μ-loop : tie.MeasureT-loop
 loop-holds : tie.Need-loop-holds Inv-loop μ-loop
 loop-holds c = (omega arith, written-none (c .before .args .q .now) (c .before .args .u .now) (c .before .args .s .now))
 
-mul-bytes : tie.Need-mul-bytes Inv-loop μ-loop
-mul-bytes c = search needs
-
-element-copy-out-bytes : tie.Need-element-copy-out-bytes Inv-loop μ-loop
-element-copy-out-bytes c = search needs
-
-mul-bytes-2 : tie.Need-mul-bytes-2 Inv-loop μ-loop
-mul-bytes-2 c = search needs
-
-element-copy-out-bytes-2 : tie.Need-element-copy-out-bytes-2 Inv-loop μ-loop
-element-copy-out-bytes-2 c = search needs
-
-bytes-requires : tie.Need-bytes-requires Inv-loop μ-loop
-bytes-requires c κs = search needs
-
-mul-copy-into : tie.Need-mul-copy-into Inv-loop μ-loop
-mul-copy-into c = search needs
-
-slice-aggregate-copy-into : tie.Need-slice-aggregate-copy-into Inv-loop μ-loop
-slice-aggregate-copy-into c = search needs
-
-copy-into-requires : tie.Need-copy-into-requires Inv-loop μ-loop
-copy-into-requires c κs = search needs
-
-add-j : tie.Need-add-j Inv-loop μ-loop
-add-j c = search needs
-
-loop-less : tie.Need-loop-less Inv-loop μ-loop
-loop-less c = search needs
-
 loop-again : tie.Need-loop-again Inv-loop μ-loop
 loop-again c =
     let l = c .before .before .before .before .before .before .before .before .before .loop in
@@ -73,16 +43,16 @@ store-spec =
     Inv-loop
     μ-loop
     loop-holds
-    mul-bytes
-    element-copy-out-bytes
-    mul-bytes-2
-    element-copy-out-bytes-2
-    bytes-requires
-    mul-copy-into
-    slice-aggregate-copy-into
-    copy-into-requires
-    add-j
-    loop-less
+    (λ mul-bytes. search needs)
+    (λ element-copy-out-bytes. search needs)
+    (λ mul-bytes-2. search needs)
+    (λ element-copy-out-bytes-2. search needs)
+    (λ bytes-requires κs. search needs)
+    (λ mul-copy-into. search needs)
+    (λ slice-aggregate-copy-into. search needs)
+    (λ copy-into-requires κs. search needs)
+    (λ add-j. search needs)
+    (λ loop-less. search needs)
     loop-again
     same-length
     returns)

@@ -22,63 +22,6 @@ loop-holds c =
     let z : List ℕ = replicate 128 0 in
     (omega arith, refl, stored-none (λ m. tweakAt m (tweakBytes (c .args .first))) z refl)
 
-mul-k : tie.Need-mul-k Inv-loop μ-loop
-mul-k c = search needs
-
-cast-u : tie.Need-cast-u Inv-loop μ-loop
-cast-u c = search needs
-
-mul-u : tie.Need-mul-u Inv-loop μ-loop
-mul-u c = search needs
-
-array-write-u : tie.Need-array-write-u Inv-loop μ-loop
-array-write-u c = search needs
-
-cast-u-2 : tie.Need-cast-u-2 Inv-loop μ-loop
-cast-u-2 c = search needs
-
-add-u : tie.Need-add-u Inv-loop μ-loop
-add-u c = search needs
-
-mul-u-2 : tie.Need-mul-u-2 Inv-loop μ-loop
-mul-u-2 c = search needs
-
-array-write-u-2 : tie.Need-array-write-u-2 Inv-loop μ-loop
-array-write-u-2 c = search needs
-
-cast-u-3 : tie.Need-cast-u-3 Inv-loop μ-loop
-cast-u-3 c = search needs
-
-add-u-2 : tie.Need-add-u-2 Inv-loop μ-loop
-add-u-2 c = search needs
-
-mul-u-3 : tie.Need-mul-u-3 Inv-loop μ-loop
-mul-u-3 c = search needs
-
-array-write-u-3 : tie.Need-array-write-u-3 Inv-loop μ-loop
-array-write-u-3 c = search needs
-
-cast-u-4 : tie.Need-cast-u-4 Inv-loop μ-loop
-cast-u-4 c = search needs
-
-add-u-3 : tie.Need-add-u-3 Inv-loop μ-loop
-add-u-3 c = search needs
-
-mul-u-4 : tie.Need-mul-u-4 Inv-loop μ-loop
-mul-u-4 c = search needs
-
-array-write-u-4 : tie.Need-array-write-u-4 Inv-loop μ-loop
-array-write-u-4 c = search needs
-
-double-requires : tie.Need-double-requires Inv-loop μ-loop
-double-requires c κs = search needs
-
-add-b : tie.Need-add-b Inv-loop μ-loop
-add-b c = search needs
-
-loop-less : tie.Need-loop-less Inv-loop μ-loop
-loop-less c = search needs
-
 loop-again : tie.Need-loop-again Inv-loop μ-loop
 unfolding tweakBytes
 loop-again c =
@@ -102,24 +45,24 @@ tweaks-spec =
     Inv-loop
     μ-loop
     loop-holds
-    mul-k
-    cast-u
-    mul-u
-    array-write-u
-    cast-u-2
-    add-u
-    mul-u-2
-    array-write-u-2
-    cast-u-3
-    add-u-2
-    mul-u-3
-    array-write-u-3
-    cast-u-4
-    add-u-3
-    mul-u-4
-    array-write-u-4
-    double-requires
-    add-b
-    loop-less
+    (λ mul-k. search needs)
+    (λ cast-u. search needs)
+    (λ mul-u. search needs)
+    (λ array-write-u. search needs)
+    (λ cast-u-2. search needs)
+    (λ add-u. search needs)
+    (λ mul-u-2. search needs)
+    (λ array-write-u-2. search needs)
+    (λ cast-u-3. search needs)
+    (λ add-u-2. search needs)
+    (λ mul-u-3. search needs)
+    (λ array-write-u-3. search needs)
+    (λ cast-u-4. search needs)
+    (λ add-u-3. search needs)
+    (λ mul-u-4. search needs)
+    (λ array-write-u-4. search needs)
+    (λ double-requires κs. search needs)
+    (λ add-b. search needs)
+    (λ loop-less. search needs)
     loop-again
     returns)

@@ -1,14 +1,13 @@
 -- `formatting::checks::format_check` meets its contract: what has passed stands as a fact of its place, and each way out is one check that fails behind it.
 use mathlib.Core.Path.{_≡_, sym, ap, _∙_}
 use mathlib.Core.List.{List, []}
-use mathlib.Core.Bool.{Bool, true, false, not}
 use Prim.Native.Nat.{ℕ}
 use native.Mathlib.Omega.{arith}
 use lib.Dec.{leb}
 use lib.ListN.{take}
-use borrow.Author.Tests.{leb-true, eq-eqb, ne-eqb, le-leb, lt-leb, not-true, not-false}
+use borrow.Author.Tests.{leb-true, eq-eqb, ne-eqb, le-leb, lt-leb}
 use borrow.Author.Needs.{needs}
-use Rattle.octets.proofs.BoolLaws.{and-split}
+use Rattle.octets.proofs.BoolLaws.{holds, fails, and-split}
 use Rattle.rules.specs.Checks.{Check}
 use Rattle.rules.specs.Profiles.{profileAt}
 use Rattle.rules.specs.Layout.{payloadStart}
@@ -26,13 +25,6 @@ abbrev checks : tie.Start → List ℕ → List Check
 checks z salt =
     let a = z .args in
     formatChecks built (formatInput (a .profile) (a .stripes) (a .key .now) salt (a .count) (a .uuid .now)) (a .image .now)
-
--- a test b that a function returned as r: it holds where the code goes on behind `!r`, and fails where the code returns
-holds : {r b : Bool} → r ≡ b → not r ≡ false → b ≡ true
-holds {r} e n = sym e ∙ not-false r n
-
-fails : {r b : Bool} → r ≡ b → not r ≡ true → b ≡ false
-fails {r} e n = sym e ∙ not-true r n
 
 -- ---- places: the call, behind each test; the row
 
@@ -94,22 +86,13 @@ payload-is c = c .payload-start .ensures .0 ∙ ap (payloadStart (start₆ (c .b
 
 -- ---- the needs
 
-size-ok-requires : tie.Need-size-ok-requires
-size-ok-requires c κs = search needs
-
 returns : tie.Need-returns
 unfolding formatChecks
 returns c salt = refused-by _ 0 tt (fails (c .before .size-ok .ensures) (c .if1 .taken))
 
-is-known-requires : tie.Need-is-known-requires
-is-known-requires c κs = search needs
-
 returns-2 : tie.Need-returns-2
 unfolding formatChecks
 returns-2 c salt = refused-by _ 1 (passed₁ (c .before .before) salt) (fails (c .before .is-known .ensures) (c .if2 .taken))
-
-stripes-ok-requires : tie.Need-stripes-ok-requires
-stripes-ok-requires c κs = search needs
 
 returns-3 : tie.Need-returns-3
 unfolding formatChecks
@@ -118,9 +101,6 @@ returns-3 c salt = refused-by _ 2 (passed₂ (c .before .before) salt) (fails (c
 profile-at-requires : tie.Need-profile-at-requires
 unfolding formatChecks
 profile-at-requires c κs = passed₃ c [] .1 .0
-
-cast-key-bytes : tie.Need-cast-key-bytes
-cast-key-bytes c = search needs
 
 returns-4 : tie.Need-returns-4
 unfolding formatChecks
@@ -134,9 +114,6 @@ returns-5 c salt =
     let p = c .before .before .before in
     refused-by _ 4 (passed₄ (c .before) salt) (lt-leb _ _ (rw (p .profile-at .ensures .checksum-count-is) at (c .if5 .taken)))
 
-uuid-ok-requires : tie.Need-uuid-ok-requires
-uuid-ok-requires c κs = search needs
-
 returns-6 : tie.Need-returns-6
 unfolding formatChecks
 returns-6 c salt = refused-by _ 5 (passed₅ (c .before .before) salt) (fails (c .before .uuid-ok .ensures) (c .if6 .taken))
@@ -149,12 +126,6 @@ payload-start-requires c κs =
       leb-true _ _ (and-split (leb 1 (a .stripes)) (leb (a .stripes) 4000) (p .1 .1 .0) .1),
       omega (arith, row c .profile-at .ensures .key-is, lawful-row rows rows-ok (a .profile) (p .1 .0) .key-most),
     )
-
-cast-if7 : tie.Need-cast-if7
-cast-if7 c = search needs
-
-mul-if7 : tie.Need-mul-if7
-mul-if7 c = search needs
 
 returns-7 : tie.Need-returns-7
 unfolding formatChecks
@@ -172,20 +143,20 @@ pub format-check-spec : {M : Type 1} → statement M
 format-check-spec =
     tie.close
     (tie.spec
-    size-ok-requires
+    (λ size-ok-requires κs. search needs)
     returns
-    is-known-requires
+    (λ is-known-requires κs. search needs)
     returns-2
-    stripes-ok-requires
+    (λ stripes-ok-requires κs. search needs)
     returns-3
     profile-at-requires
-    cast-key-bytes
+    (λ cast-key-bytes. search needs)
     returns-4
     returns-5
-    uuid-ok-requires
+    (λ uuid-ok-requires κs. search needs)
     returns-6
     payload-start-requires
-    cast-if7
-    mul-if7
+    (λ cast-if7. search needs)
+    (λ mul-if7. search needs)
     returns-7
     returns-8)

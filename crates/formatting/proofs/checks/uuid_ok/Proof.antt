@@ -54,27 +54,15 @@ returns c = let u = c .before .args .uuid .now in and-no (eqb (length u) 36) (pr
 loop-holds : tie.Need-loop-holds Inv-loop μ-loop
 loop-holds c = (omega arith, printable-every (c .before .args .uuid .now))
 
-shared-slice-read-if2 : tie.Need-shared-slice-read-if2 Inv-loop μ-loop
-shared-slice-read-if2 c = search needs
-
 returns-2 : tie.Need-returns-2 Inv-loop μ-loop
 returns-2 c =
     let t = c .before .before .before in
     out t (omega arith) (sym (and-no (leb 33 (byte t)) (leb (byte t) 126) (lt-leb 33 (byte t) (c .if2 .taken))))
 
-shared-slice-read-if3 : tie.Need-shared-slice-read-if3 Inv-loop μ-loop
-shared-slice-read-if3 c = search needs
-
 returns-3 : tie.Need-returns-3 Inv-loop μ-loop
 returns-3 c =
     let t = turn (c .before) in
     out t (omega arith) (and-false (leb 33 (byte t)) (leb (byte t) 126) (lt-leb (byte t) 126 (c .if3 .taken)))
-
-add-i : tie.Need-add-i Inv-loop μ-loop
-add-i c = search needs
-
-loop-less : tie.Need-loop-less Inv-loop μ-loop
-loop-less c = search needs
 
 loop-again : tie.Need-loop-again Inv-loop μ-loop
 loop-again c =
@@ -96,11 +84,11 @@ uuid-ok-spec =
     μ-loop
     returns
     loop-holds
-    shared-slice-read-if2
+    (λ shared-slice-read-if2. search needs)
     returns-2
-    shared-slice-read-if3
+    (λ shared-slice-read-if3. search needs)
     returns-3
-    add-i
-    loop-less
+    (λ add-i. search needs)
+    (λ loop-less. search needs)
     loop-again
     returns-4)

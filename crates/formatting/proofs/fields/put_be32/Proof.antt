@@ -5,18 +5,6 @@ use Rattle.octets.specs.Splice.{splice}
 use Rattle.formatting.proofs.fields.put_be32.Statement.{statement}
 use Rattle.formatting.proofs.fields.put_be32.Tie as tie
 
-be32-requires : tie.Need-be32-requires
-be32-requires c κs = search needs
-
-slice-aggregate-copy-into : tie.Need-slice-aggregate-copy-into
-slice-aggregate-copy-into c = search needs
-
-copy-into-requires : tie.Need-copy-into-requires
-copy-into-requires c κs = search needs
-
-same-length : tie.Need-same-length
-same-length c = search needs
-
 returns : tie.Need-returns
 returns c =
     let w = c .before .before in
@@ -27,4 +15,4 @@ returns c =
 pub put-be32-spec : {M : Type 1} → statement M
 put-be32-spec =
     tie.close
-    (tie.spec be32-requires slice-aggregate-copy-into copy-into-requires same-length returns)
+    (tie.spec (λ be32-requires κs. search needs) (λ slice-aggregate-copy-into. search needs) (λ copy-into-requires κs. search needs) (λ same-length. search needs) returns)

@@ -10,18 +10,6 @@ use Rattle.formatting.proofs.fields.put_names.Tie as tie
 widths : (z : tie.Start) → Widths (names (z .args .p)) nameWidths
 widths z = (refl, (refl, (search needs, (search needs, (search needs, tt)))))
 
-slice-aggregate-copy-into : tie.Need-slice-aggregate-copy-into
-slice-aggregate-copy-into c = search needs
-
-copy-into-requires : tie.Need-copy-into-requires
-copy-into-requires c κs = search needs
-
-slice-aggregate-copy-into-2 : tie.Need-slice-aggregate-copy-into-2
-slice-aggregate-copy-into-2 c = search needs
-
-copy-into-requires-2 : tie.Need-copy-into-requires-2
-copy-into-requires-2 c κs = search needs
-
 slice-aggregate-copy-into-3 : tie.Need-slice-aggregate-copy-into-3
 slice-aggregate-copy-into-3 c = search needs
 
@@ -40,9 +28,6 @@ slice-aggregate-copy-into-5 c = search needs
 copy-into-requires-5 : tie.Need-copy-into-requires-5
 copy-into-requires-5 c κs = omega (arith, slice-aggregate-copy-into-5 c)
 
-same-length : tie.Need-same-length
-same-length c = search needs
-
 returns : tie.Need-returns
 returns c =
     let c₅ = c .before .before in
@@ -58,15 +43,15 @@ pub put-names-spec : {M : Type 1} → statement M
 put-names-spec =
     tie.close
     (tie.spec
-    slice-aggregate-copy-into
-    copy-into-requires
-    slice-aggregate-copy-into-2
-    copy-into-requires-2
+    (λ slice-aggregate-copy-into. search needs)
+    (λ copy-into-requires κs. search needs)
+    (λ slice-aggregate-copy-into-2. search needs)
+    (λ copy-into-requires-2 κs. search needs)
     slice-aggregate-copy-into-3
     copy-into-requires-3
     slice-aggregate-copy-into-4
     copy-into-requires-4
     slice-aggregate-copy-into-5
     copy-into-requires-5
-    same-length
+    (λ same-length. search needs)
     returns)

@@ -10,36 +10,6 @@ use Rattle.formatting.proofs.FieldsLaws.{in-order, numberWidths, number
 use Rattle.formatting.proofs.fields.put_numbers.Statement.{statement}
 use Rattle.formatting.proofs.fields.put_numbers.Tie as tie
 
-uuid-field-requires : tie.Need-uuid-field-requires
-uuid-field-requires c κs = search needs
-
-payload-start-requires : tie.Need-payload-start-requires
-payload-start-requires c κs = search needs
-
-put-be32-requires : tie.Need-put-be32-requires
-put-be32-requires c κs = search needs
-
-put-be32-requires-2 : tie.Need-put-be32-requires-2
-put-be32-requires-2 c κs = search needs
-
-copy-into-requires : tie.Need-copy-into-requires
-copy-into-requires c κs = search needs
-
-copy-into-requires-2 : tie.Need-copy-into-requires-2
-copy-into-requires-2 c κs = search needs
-
-put-be32-requires-3 : tie.Need-put-be32-requires-3
-put-be32-requires-3 c κs = search needs
-
-slice-aggregate-copy-into : tie.Need-slice-aggregate-copy-into
-slice-aggregate-copy-into c = search needs
-
-copy-into-requires-3 : tie.Need-copy-into-requires-3
-copy-into-requires-3 c κs = search needs
-
-same-length : tie.Need-same-length
-same-length c = search needs
-
 returns : tie.Need-returns
 returns c =
     let c₆ = c .before .before in
@@ -69,14 +39,14 @@ pub put-numbers-spec : {M : Type 1} → statement M
 put-numbers-spec =
     tie.close
     (tie.spec
-    uuid-field-requires
-    payload-start-requires
-    put-be32-requires
-    put-be32-requires-2
-    copy-into-requires
-    copy-into-requires-2
-    put-be32-requires-3
-    slice-aggregate-copy-into
-    copy-into-requires-3
-    same-length
+    (λ uuid-field-requires κs. search needs)
+    (λ payload-start-requires κs. search needs)
+    (λ put-be32-requires κs. search needs)
+    (λ put-be32-requires-2 κs. search needs)
+    (λ copy-into-requires κs. search needs)
+    (λ copy-into-requires-2 κs. search needs)
+    (λ put-be32-requires-3 κs. search needs)
+    (λ slice-aggregate-copy-into. search needs)
+    (λ copy-into-requires-3 κs. search needs)
+    (λ same-length. search needs)
     returns)

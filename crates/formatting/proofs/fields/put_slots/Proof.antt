@@ -19,24 +19,6 @@ abbrev μ-loop : tie.MeasureT-loop
 loop-holds : tie.Need-loop-holds Inv-loop μ-loop
 loop-holds c = (omega arith, search needs, refl)
 
-slot-record-requires : tie.Need-slot-record-requires Inv-loop μ-loop
-slot-record-requires c κs = search needs
-
-record-at-requires : tie.Need-record-at-requires Inv-loop μ-loop
-record-at-requires c κs = search needs
-
-slice-aggregate-copy-into : tie.Need-slice-aggregate-copy-into Inv-loop μ-loop
-slice-aggregate-copy-into c = search needs
-
-copy-into-requires : tie.Need-copy-into-requires Inv-loop μ-loop
-copy-into-requires c κs = search needs
-
-add-k : tie.Need-add-k Inv-loop μ-loop
-add-k c = search needs
-
-loop-less : tie.Need-loop-less Inv-loop μ-loop
-loop-less c = search needs
-
 loop-again : tie.Need-loop-again Inv-loop μ-loop
 loop-again c =
     let w = c .before .before in
@@ -48,9 +30,6 @@ loop-again c =
     let e : w .copy-into .last .0 ≡ splice (l .h) (208 + l .k * 48) (blank (a .stripes) (a .key-bytes) (l .k))
     = w .copy-into .ensures ∙ ap₂ (λ (o : ℕ) (b : List ℕ). splice (l .h) o b) (at .record-at .ensures) (r .slot-record .ensures) in
     (omega arith, n, rw e (record-next (a .stripes) (a .key-bytes) (l .h) (l .k) (omega arith) (omega arith)) ∙ l .inv .2)
-
-same-length : tie.Need-same-length Inv-loop μ-loop
-same-length c = search needs
 
 returns : tie.Need-returns Inv-loop μ-loop
 returns c =
@@ -66,12 +45,12 @@ put-slots-spec =
     Inv-loop
     μ-loop
     loop-holds
-    slot-record-requires
-    record-at-requires
-    slice-aggregate-copy-into
-    copy-into-requires
-    add-k
-    loop-less
+    (λ slot-record-requires κs. search needs)
+    (λ record-at-requires κs. search needs)
+    (λ slice-aggregate-copy-into. search needs)
+    (λ copy-into-requires κs. search needs)
+    (λ add-k. search needs)
+    (λ loop-less. search needs)
     loop-again
-    same-length
+    (λ same-length. search needs)
     returns)

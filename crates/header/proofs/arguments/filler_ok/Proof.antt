@@ -22,14 +22,8 @@ own c = sound (start c .args .image .now) (start c .pre .0) .slot (start c .args
 slot-of-requires : tie.Need-slot-of-requires
 slot-of-requires c κs = let s = c .before .before in (sound (s .args .image .now) (s .pre .0) .size, s .pre .1)
 
-cast-result : tie.Need-cast-result
-cast-result c = search needs
-
 key-bytes-requires : tie.Need-key-bytes-requires
 key-bytes-requires c κs = let s = start (c .before) in sound (s .args .image .now) (s .pre .0) .named
-
-cast-result-2 : tie.Need-cast-result-2
-cast-result-2 c = search needs
 
 mul-result : tie.Need-mul-result
 mul-result c =
@@ -46,4 +40,4 @@ returns c =
 pub filler-ok-spec : {M : Type 1} → statement M
 filler-ok-spec =
     tie.close
-    (tie.spec slot-of-requires cast-result key-bytes-requires cast-result-2 mul-result returns)
+    (tie.spec slot-of-requires (λ cast-result. search needs) key-bytes-requires (λ cast-result-2. search needs) mul-result returns)

@@ -22,17 +22,11 @@ own c = sound (start c .args .image .now) (start c .pre .0) .slot (start c .args
 slot-of-requires : tie.Need-slot-of-requires
 slot-of-requires c κs = let s = c .before .before in (sound (s .args .image .now) (s .pre .0) .size, s .pre .1)
 
-cast-result : tie.Need-cast-result
-cast-result c = search needs
-
 sub-result : tie.Need-sub-result
 sub-result c = let s = c .before in omega (arith, s .slot-of .ensures .stripes-is, own s .stripes-least)
 
 key-bytes-requires : tie.Need-key-bytes-requires
 key-bytes-requires c κs = let s = start (c .before) in sound (s .args .image .now) (s .pre .0) .named
-
-cast-result-2 : tie.Need-cast-result-2
-cast-result-2 c = search needs
 
 mul-result : tie.Need-mul-result
 mul-result c =
@@ -51,9 +45,9 @@ random-ok-spec =
     tie.close
     (tie.spec
     slot-of-requires
-    cast-result
+    (λ cast-result. search needs)
     sub-result
     key-bytes-requires
-    cast-result-2
+    (λ cast-result-2. search needs)
     mul-result
     returns)

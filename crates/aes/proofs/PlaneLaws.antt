@@ -163,16 +163,20 @@ module _ (q r : List ℕ) (e : (k : ℕ) → k < 4 → elems at4 k 0 32 r ≡ mi
   mixed = of-rows (λ p. laneByte j (cell p r) ≡ rowSum (f p) (f ((p + 4) % 16)) (f ((p + 8) % 16)) (f ((p + 12) % 16)))
       (λ k h. ap (laneByte j) (cell-row0 k r ∙ ap row0 (e k h))
       ∙ mix-byte j (row0 (elems at4 k 0 32 q)) (row1 (elems at4 k 0 32 q)) (row2 (elems at4 k 0 32 q)) (row3 (elems at4 k 0 32 q)) refl refl refl refl
-      ∙ four-rows k (k + 4) (k + 8) (k + 12) k ((k + 4) % 16) ((k + 8) % 16) ((k + 12) % 16) (byte-row0 q j k) (byte-row1 q j k) (byte-row2 q j k) (byte-row3 q j k) refl (omega arith) (omega arith) (omega arith))
+      ∙ four-rows k (k + 4) (k + 8) (k + 12) k ((k + 4) % 16) ((k + 8) % 16) ((k + 12) % 16)
+      (byte-row0 q j k) (byte-row1 q j k) (byte-row2 q j k) (byte-row3 q j k) refl (omega arith) (omega arith) (omega arith))
       (λ k h. ap (laneByte j) (cell-row1 k r ∙ ap row1 (e k h))
       ∙ mix-byte j (row1 (elems at4 k 0 32 q)) (row2 (elems at4 k 0 32 q)) (row3 (elems at4 k 0 32 q)) (row0 (elems at4 k 0 32 q)) refl refl refl refl
-      ∙ four-rows (k + 4) (k + 8) (k + 12) k (k + 4) ((k + 4 + 4) % 16) ((k + 4 + 8) % 16) ((k + 4 + 12) % 16) (byte-row1 q j k) (byte-row2 q j k) (byte-row3 q j k) (byte-row0 q j k) refl (omega arith) (omega arith) (omega arith))
+      ∙ four-rows (k + 4) (k + 8) (k + 12) k (k + 4) ((k + 4 + 4) % 16) ((k + 4 + 8) % 16) ((k + 4 + 12) % 16)
+      (byte-row1 q j k) (byte-row2 q j k) (byte-row3 q j k) (byte-row0 q j k) refl (omega arith) (omega arith) (omega arith))
       (λ k h. ap (laneByte j) (cell-row2 k r ∙ ap row2 (e k h))
       ∙ mix-byte j (row2 (elems at4 k 0 32 q)) (row3 (elems at4 k 0 32 q)) (row0 (elems at4 k 0 32 q)) (row1 (elems at4 k 0 32 q)) refl refl refl refl
-      ∙ four-rows (k + 8) (k + 12) k (k + 4) (k + 8) ((k + 8 + 4) % 16) ((k + 8 + 8) % 16) ((k + 8 + 12) % 16) (byte-row2 q j k) (byte-row3 q j k) (byte-row0 q j k) (byte-row1 q j k) refl (omega arith) (omega arith) (omega arith))
+      ∙ four-rows (k + 8) (k + 12) k (k + 4) (k + 8) ((k + 8 + 4) % 16) ((k + 8 + 8) % 16) ((k + 8 + 12) % 16)
+      (byte-row2 q j k) (byte-row3 q j k) (byte-row0 q j k) (byte-row1 q j k) refl (omega arith) (omega arith) (omega arith))
       (λ k h. ap (laneByte j) (cell-row3 k r ∙ ap row3 (e k h))
       ∙ mix-byte j (row3 (elems at4 k 0 32 q)) (row0 (elems at4 k 0 32 q)) (row1 (elems at4 k 0 32 q)) (row2 (elems at4 k 0 32 q)) refl refl refl refl
-      ∙ four-rows (k + 12) k (k + 4) (k + 8) (k + 12) ((k + 12 + 4) % 16) ((k + 12 + 8) % 16) ((k + 12 + 12) % 16) (byte-row3 q j k) (byte-row0 q j k) (byte-row1 q j k) (byte-row2 q j k) refl (omega arith) (omega arith) (omega arith))
+      ∙ four-rows (k + 12) k (k + 4) (k + 8) (k + 12) ((k + 12 + 4) % 16) ((k + 12 + 8) % 16) ((k + 12 + 12) % 16)
+      (byte-row3 q j k) (byte-row0 q j k) (byte-row1 q j k) (byte-row2 q j k) refl (omega arith) (omega arith) (omega arith))
     where
       four-rows : {w x y z : ℕ} (a b c d a′ b′ c′ d′ : ℕ) → w ≡ f a → x ≡ f b → y ≡ f c → z ≡ f d → a ≡ a′ → b ≡ b′ → c ≡ c′ → d ≡ d′
           → rowSum w x y z ≡ rowSum (f a′) (f b′) (f c′) (f d′)

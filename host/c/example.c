@@ -10,7 +10,8 @@
 #include <string.h>
 #include <sys/random.h>
 
-enum { KEY = 64, STRIPES = 4000, COUNT = 1000, UNITS = 8, PAYLOAD = UNITS * 512, PAYLOAD_START = 4037 };
+/* Profile 2: hash sha1 and a key of 64 bytes. Profile 4 is the same with sha256. */
+enum { PROFILE = 2, KEY = 64, STRIPES = 4000, COUNT = 1000, UNITS = 8, PAYLOAD = UNITS * 512, PAYLOAD_START = 4037 };
 enum { IMAGE = (PAYLOAD_START + UNITS) * 512, RANDOM = (STRIPES - 1) * KEY, FILLER = STRIPES * KEY };
 
 /* For the show these stand in the program. In earnest a passphrase is read into memory that is wiped. */
@@ -77,7 +78,7 @@ static unsigned format(void) {
     unsigned result;
     randomise(key, KEY);
     randomise(salt, 32);
-    result = mivrozh_format(image, IMAGE, 2, STRIPES, key, KEY, salt, COUNT, octets(UUID), 36);
+    result = mivrozh_format(image, IMAGE, PROFILE, STRIPES, key, KEY, salt, COUNT, octets(UUID), 36);
     mivrozh_wipe_stack();
     return result;
 }

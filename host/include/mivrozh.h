@@ -1,5 +1,5 @@
 /*
- * mivrozh.h: LUKS version 1 drives (cipher aes, mode xts-plain64, hash sha1, keys of 256 or 512 bits).
+ * mivrozh.h: LUKS version 1 drives (cipher aes, mode xts-plain64, hash sha1 or sha256, keys of 256 or 512 bits).
  *
  * Every call works on one image that the caller lends: the header, the eight key areas and the payload of a drive, from its
  * first byte. Link with libmivrozh.a (`pkg-config --cflags --libs mivrozh` where it is installed; in the repository it is
@@ -24,9 +24,10 @@
  *   - A changed image is written back to the disk in an order that a loss of power survives: key area, then sector 1, then
  *     sector 0. Before a changed slot's old area is overwritten on the disk, the new slot is there whole and enabled.
  *
- * COST. A derivation is PBKDF2-HMAC-SHA1 over a slot's iteration count, done for each 20 bytes of its result: 2 times the
- * count for a key of 32 bytes, 4 times for one of 64, once for the 20 bytes of the key's checksum. It is what takes the time.
- * A check before 17 derives nothing.
+ * COST. A derivation is PBKDF2 with HMAC of the drive's hash over a slot's iteration count, done for each 20 bytes of its
+ * result with sha1 and for each 32 with sha256: 2 times the count for a key of 32 bytes and 4 times for one of 64 with sha1,
+ * once and 2 times with sha256, once for the 20 bytes of the key's checksum. It is what takes the time. A check before 17
+ * derives nothing.
  *
  * NUMBERS. L is the length of the drive's master key, 32 or 64 bytes; n is a slot's number of stripes.
  *    1  image below 1,024 bytes or no multiple of 512
@@ -69,7 +70,8 @@ extern "C" {
 /*
  * Makes a new drive: zeros everything before the payload, then writes the header. All slots are free, so add a passphrase at
  * once. The payload keeps its bytes.
- *   profile  1: L is 32; 2: L is 64
+ *   profile  1: sha1, L is 32; 2: sha1, L is 64; 3: sha256, L is 32; 4: sha256, L is 64. All other calls take the hash from
+ *            the header
  *   stripes  of every slot; other tools read 4,000 only
  *   key      the new master key, L bytes
  *   salt     of the key's checksum; count: its iterations

@@ -1,1 +1,3 @@
 pub mod Digest
+pub mod Chaining
+pub mod Turns

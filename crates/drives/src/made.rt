@@ -2,14 +2,14 @@
 ghost use mathlib.Core.Path.{_≡_};
 ghost use lib.ListN.{length};
 
-// Room for the drive with 256-bit keys: 2,056 sectors before the payload, and 8 units.
+// Room for a drive with 256-bit keys: 2,056 sectors before the payload, and 8 units.
 pub fn image_256() -> [u8; 1056768]
     ensures { λ r. ⌜ 1056768 ≡ length r ⌝ }
 {
     [0; 1056768]
 }
 
-// Room for the drive with 512-bit keys: 4,040 sectors and 8 units.
+// Room for a drive with 512-bit keys: 4,040 sectors and 8 units.
 pub fn image_512() -> [u8; 2072576]
     ensures { λ r. ⌜ 2072576 ≡ length r ⌝ }
 {

@@ -67,23 +67,23 @@ fn fill(key: &mut [u8], wrong: &mut [u8], filler: &mut [u8], random: &mut [u8]) 
     testing::sequence(random, 3, 13, 251);
 }
 
-// The drive in the file, which has exactly as many bytes as the image, with room for the rest.
+// The drive of the profile with this number, in the file, which has exactly as many bytes as the image, with room for the rest.
 fn drive(
     image: &mut [u8],
     key: &mut [u8],
     wrong: &mut [u8],
     filler: &mut [u8],
     random: &mut [u8],
-    bits: u64,
+    profile: u64,
     file: &[u8],
 ) {
     let n = testing::load(image, file);
-    report::line(bits, b"is read whole", n == image.len());
+    report::line(profile, b"is read whole", n == image.len());
     fill(key, wrong, filler, random);
-    tried(image, bits, key, wrong, filler, random);
+    tried(image, profile, key, wrong, filler, random);
 }
 
-fn drive_256() {
+fn drive_256(profile: u64, file: &[u8]) {
     let mut image = made::image_256();
     let mut key = [0u8; 32];
     let mut wrong = [0u8; 32];
@@ -95,12 +95,12 @@ fn drive_256() {
         &mut wrong,
         &mut filler,
         &mut random,
-        256,
-        b"luks1-256.img",
+        profile,
+        file,
     );
 }
 
-fn drive_512() {
+fn drive_512(profile: u64, file: &[u8]) {
     let mut image = made::image_512();
     let mut key = [0u8; 64];
     let mut wrong = [0u8; 64];
@@ -112,12 +112,14 @@ fn drive_512() {
         &mut wrong,
         &mut filler,
         &mut random,
-        512,
-        b"luks1-512.img",
+        profile,
+        file,
     );
 }
 
 fn main() {
-    drive_256();
-    drive_512();
+    drive_256(1, b"luks1-256.img");
+    drive_512(2, b"luks1-512.img");
+    drive_256(3, b"luks1-sha256-256.img");
+    drive_512(4, b"luks1-sha256-512.img");
 }

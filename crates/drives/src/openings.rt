@@ -66,7 +66,7 @@ pub fn opens(drive: u64, image: &[u8], slot: u8, passphrase: &[u8], key: &[u8]) 
     opens_by_search(drive, image, slot, passphrase, key);
 }
 
-// The slots that cryptsetup filled. The passphrase of slot 4 is longer than a block of SHA-1.
+// The slots that cryptsetup filled. The passphrase of slot 4 is longer than a block of the hash.
 pub fn filled_slots(drive: u64, image: &[u8], key: &[u8]) {
     let long =
         b"a fourth passphrase, which is longer than the sixty-four bytes of a block of SHA-1";

@@ -32,6 +32,7 @@ use Rattle.ledger.proofs.AnswerLaws.{entered, live-candidate, live-answer, writ
 use Rattle.ledger.proofs.Built.{demand-3-built}
 use Rattle.example.specs.Example.{bytes, one, two, three, noOpen, said}
 use Rattle.example.specs.Real.{realKey, realInput, realImage, slotOne, slotTwo, slotThree, filler, realCalls, realOpened, realAnswers, realEnd, realLedger, RealDrive}
+use Rattle.example.specs.Real.{longKey, EachFormats}
 use Rattle.example.proofs.TypedLaws.{format-typed, calls-typed}
 use Rattle.example.proofs.EnterAllLaws.{Enters, enter-kept, enter-refused, enter-good, enterAll-nil, enterAll-cons}
 
@@ -275,3 +276,9 @@ real-drive =
       reads-1 = reads-1;
       some-live = theorem .some-live (ap (addAccepted realCalls) answers ∙ some-accepted);
     }
+
+-- ---- the other profiles
+
+pub each-formats : EachFormats
+unfolding zeros first profileAt known aesXtsRow rows areaSectors roundUp areaStart payloadStart sizeOk printable formatChecks settleFormat format bytes realKey longKey realImage
+each-formats = record { accepted-1 = refl; accepted-2 = refl; accepted-3 = refl; accepted-4 = refl }

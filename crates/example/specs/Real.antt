@@ -1,6 +1,6 @@
 -- A drive of the built suite (profile 1: aes, xts-plain64, sha1), and what demand 3 says of it. Nothing here is derived or enciphered by the checker.
 use mathlib.Core.Path.{_≡_}
-use mathlib.Core.List.{List, [], _∷_}
+use mathlib.Core.List.{List, [], _∷_, _++_}
 use Prim.Native.Nat.{ℕ, _*_}
 use lib.ListN.{length}
 use Rattle.octets.specs.Octets.{zeros, padded}
@@ -21,19 +21,23 @@ realKey =
     0x27 ∷ 0x18 ∷ 0x28 ∷ 0x18 ∷ 0x28 ∷ 0x45 ∷ 0x90 ∷ 0x45 ∷ 0x23 ∷ 0x53 ∷ 0x60 ∷ 0x28 ∷ 0x74 ∷ 0x71 ∷ 0x35 ∷ 0x26
     ∷ 0x31 ∷ 0x41 ∷ 0x59 ∷ 0x26 ∷ 0x53 ∷ 0x58 ∷ 0x97 ∷ 0x93 ∷ 0x23 ∷ 0x84 ∷ 0x62 ∷ 0x64 ∷ 0x33 ∷ 0x83 ∷ 0x27 ∷ 0x95 ∷ []
 
--- profile 1, two stripes, count 1,000, UUID "0123abcd-0123-4abc-8abc-0123456789ab"
-unfoldable pub realInput : FormatInput
-realInput =
+-- profile k, two stripes, count 1,000, UUID "0123abcd-0123-4abc-8abc-0123456789ab"
+abbrev pub inputOf : ℕ → List ℕ → FormatInput
+inputOf k key =
     record {
-      profile = 1;
+      profile = k;
       stripes = 2;
-      key = realKey;
+      key = key;
       salt = bytes 32 0x5A;
       count = 1000;
       uuid =
           0x30 ∷ 0x31 ∷ 0x32 ∷ 0x33 ∷ 0x61 ∷ 0x62 ∷ 0x63 ∷ 0x64 ∷ 0x2D ∷ 0x30 ∷ 0x31 ∷ 0x32 ∷ 0x33 ∷ 0x2D ∷ 0x34 ∷ 0x61 ∷ 0x62 ∷ 0x63
           ∷ 0x2D ∷ 0x38 ∷ 0x61 ∷ 0x62 ∷ 0x63 ∷ 0x2D ∷ 0x30 ∷ 0x31 ∷ 0x32 ∷ 0x33 ∷ 0x34 ∷ 0x35 ∷ 0x36 ∷ 0x37 ∷ 0x38 ∷ 0x39 ∷ 0x61 ∷ 0x62 ∷ [];
     }
+
+-- profile 1
+unfoldable pub realInput : FormatInput
+realInput = inputOf 1 realKey
 
 -- 67 sectors: 65 before the payload, and two of it
 unfoldable pub realImage : List ℕ
@@ -107,3 +111,16 @@ pub record RealDrive : Type 0 where
   -- the unit that was written reads back after the list
   pub reads-1 : (buffer : List ℕ) → length buffer ≡ 512 → step built realEnd (read realKey 1 1 buffer) .said ≡ said 0 (bytes 512 0x2A)
   pub some-live : SomeLive realLedger
+
+-- ---- the other profiles
+
+-- a key of 64 bytes
+unfoldable pub longKey : List ℕ
+longKey = realKey ++ realKey
+
+-- format accepts a drive of each built profile, so that demand 3 speaks of drives of each
+pub record EachFormats : Type 0 where
+  pub accepted-1 : format built (inputOf 1 realKey) realImage .code ≡ 0
+  pub accepted-2 : format built (inputOf 2 longKey) realImage .code ≡ 0
+  pub accepted-3 : format built (inputOf 3 realKey) realImage .code ≡ 0
+  pub accepted-4 : format built (inputOf 4 longKey) realImage .code ≡ 0

@@ -1,22 +1,27 @@
--- Every figure of 01 holds.
-use mathlib.Core.Path.{_≡_, refl, _∙_}
+-- Every figure holds.
+use mathlib.Core.Path.{_≡_, refl, ap₂, _∙_}
 use mathlib.Core.List.{List, [], _∷_}
 use mathlib.Core.Bool.{_&&_}
 use Prim.Native.Nat.{ℕ, zero, suc, _*_, _%_}
+use native.Mathlib.Nat.{zero-mul}
 use native.Mathlib.Omega.{arith}
 use lib.Dec.{eqb, leb}
-use lib.ListN.{length}
+use lib.ListN.{length, length-take, length-drop}
 use borrow.Author.Tests.{le-leb, ne-eqb}
+use Rattle.octets.specs.Octets.{xors, zeros}
+use Rattle.octets.specs.Pieces.{pieces, inPieces}
+use Rattle.octets.proofs.XorLaws.{zero-⊕}
 use Rattle.gf256.proofs.Figures.{sub-0x00, xtime-0x80}
+use Rattle.suite.specs.Split.{running, split, mergeFrom, merge}
 use Rattle.xts.proofs.Figures.{double-first, double-last}
 use Rattle.rules.specs.Checks.{Check, first}
 use Rattle.rules.specs.Profiles.{profileAt, known}
 use Rattle.rules.specs.Layout.{areaSectors, roundUp, areaStart, payloadStart}
 use Rattle.rules.specs.Header.{sizeOk}
 use Rattle.rules.specs.Format.{FormatInput, formatChecks, settleFormat, format}
-use Rattle.profiles.specs.Rows.{aesXtsRow, rows}
+use Rattle.profiles.specs.Rows.{hashOf, aesXtsRow, rows}
 use Rattle.profiles.specs.Suites.{built}
-use Rattle.figures.specs.Figures.{Plain, Figures}
+use Rattle.figures.specs.Figures.{Plain, pieceLengths, Figures}
 
 -- what is left to check of plain arguments, where the image has n bytes
 abbrev lengthChecks : ℕ → List Check
@@ -48,6 +53,39 @@ module _ (a : FormatInput) (image : List ℕ) where
     by-length : (n r : ℕ) → length image ≡ n → first (lengthChecks n) ≡ r → format built a image .code ≡ r
     by-length n r e f = code-is r (left-to-check n e ∙ f)
 
+-- ---- the splitter
+
+module _ (x : List ℕ) where
+  pieces-1 : length x ≡ 32 → pieceLengths 1 x ≡ 20 ∷ 12 ∷ []
+  unfolding inPieces pieces hashOf
+  pieces-1 e = simp (length-take, length-drop, e)
+
+  pieces-2 : length x ≡ 64 → pieceLengths 2 x ≡ 20 ∷ 20 ∷ 20 ∷ 4 ∷ []
+  unfolding inPieces pieces hashOf
+  pieces-2 e = simp (length-take, length-drop, e)
+
+  pieces-3 : length x ≡ 32 → pieceLengths 3 x ≡ 32 ∷ []
+  unfolding inPieces pieces hashOf
+  pieces-3 e = simp (length-take, e)
+
+  pieces-4 : length x ≡ 64 → pieceLengths 4 x ≡ 32 ∷ 32 ∷ []
+  unfolding inPieces pieces hashOf
+  pieces-4 e = simp (length-take, length-drop, e)
+
+zeros-xors : (key : List ℕ) → xors (zeros (length key)) key ≡ key
+unfolding xors zeros
+zeros-xors [] = refl
+zeros-xors (b ∷ key) = ap₂ _∷_ (zero-⊕ b) (zeros-xors key)
+
+module _ (H : List ℕ → List ℕ) (key : List ℕ) where
+  one-stripe : split H (length key) 1 [] key ≡ key
+  unfolding split running
+  one-stripe = zeros-xors key
+
+  one-merged : merge H (length key) 1 key ≡ key
+  unfolding merge mergeFrom running
+  one-merged = rw (zero-mul (length key)) (zeros-xors key)
+
 pub figures : Figures
 unfolding areaSectors roundUp areaStart payloadStart first
 figures =
@@ -68,4 +106,10 @@ figures =
       doubled-last = double-last;
       substituted-0 = sub-0x00;
       doubled-0x80 = xtime-0x80;
+      pieces-1 = pieces-1;
+      pieces-2 = pieces-2;
+      pieces-3 = pieces-3;
+      pieces-4 = pieces-4;
+      one-stripe = λ k. one-stripe _;
+      one-merged = λ k. one-merged _;
     }

@@ -1,15 +1,19 @@
--- The figures of 01 ("Figures to check"), as statements over the definitions that the calls' contracts cite.
+-- The figures of 01 ("Figures to check") and of Wish 1 of 02, as statements over the definitions that the calls' contracts cite.
 use mathlib.Core.Path.{_≡_}
 use mathlib.Core.List.{List, [], _∷_, _++_, map}
 use mathlib.Core.Bool.{true}
 use Prim.Native.Nat.{ℕ, _≤_}
 use lib.ListN.{length}
 use Rattle.octets.specs.Octets.{zeros}
+use Rattle.octets.specs.Pieces.{inPieces}
+use Rattle.hash.specs.Hash.{digestOf}
 use Rattle.gf256.specs.Field.{xtime, sub}
+use Rattle.suite.specs.Split.{split, merge}
 use Rattle.xts.specs.Xts.{double}
 use Rattle.rules.specs.Layout.{areaSectors, areaStart, payloadStart, slots}
 use Rattle.rules.specs.Format.{FormatInput, printable, format}
-use Rattle.profiles.specs.Suites.{built}
+use Rattle.profiles.specs.Rows.{hashOf}
+use Rattle.profiles.specs.Suites.{suiteOf, built}
 
 -- format's arguments for profile 1 and any stripes that give payload 65, with nothing wrong but maybe the image's length
 pub record Plain (a : FormatInput) : Type 0 where
@@ -21,6 +25,10 @@ pub record Plain (a : FormatInput) : Type 0 where
   pub count-is : 1000 ≤ a .count
   pub uuid-long : length (a .uuid) ≡ 36
   pub uuid-printable : printable (a .uuid) ≡ true
+
+-- how long the pieces are into which H cuts x, with the hash of profile k
+abbrev pub pieceLengths : ℕ → List ℕ → List ℕ
+pieceLengths k x = inPieces (digestOf (hashOf k) .size) (λ i piece. length piece ∷ []) 0 x
 
 -- the one table
 pub record Figures : Type 0 where
@@ -46,3 +54,12 @@ pub record Figures : Type 0 where
   -- "AES substitution of 0x00 is 0x63; 0x80 doubled is 0x1B"
   pub substituted-0 : sub 0x00 ≡ 0x63
   pub doubled-0x80 : xtime 0x80 ≡ 0x1B
+  -- "For L = 32 the pieces are 20 and 12, for L = 64 they are 20, 20, 20 and 4" (01, "The splitter"), of profiles 1 and 2
+  pub pieces-1 : (x : List ℕ) → length x ≡ 32 → pieceLengths 1 x ≡ 20 ∷ 12 ∷ []
+  pub pieces-2 : (x : List ℕ) → length x ≡ 64 → pieceLengths 2 x ≡ 20 ∷ 20 ∷ 20 ∷ 4 ∷ []
+  -- "the pieces are then 32 bytes" (02, Wish 1), of profiles 3 and 4
+  pub pieces-3 : (x : List ℕ) → length x ≡ 32 → pieceLengths 3 x ≡ 32 ∷ []
+  pub pieces-4 : (x : List ℕ) → length x ≡ 64 → pieceLengths 4 x ≡ 32 ∷ 32 ∷ []
+  -- "With n = 1 the only stripe is the key", of every profile
+  pub one-stripe : (k : ℕ) (key : List ℕ) → split (suiteOf k .diffuse) (length key) 1 [] key ≡ key
+  pub one-merged : (k : ℕ) (key : List ℕ) → merge (suiteOf k .diffuse) (length key) 1 key ≡ key

@@ -14,7 +14,8 @@ use Rattle.octets.specs.Splice.{splice}
 use Rattle.octets.proofs.BoolLaws.{and-split}
 use Rattle.octets.proofs.OctetsLaws.{length-zeros, length-padded}
 use Rattle.octets.proofs.PartsLaws.{Widths, flatten-append, length-flatten}
-use Rattle.sha1.specs.Sha1.{sha1}
+use Rattle.hash.specs.declared.Hash.{Hash}
+use Rattle.hash.specs.Hash.{digestOf}
 use Rattle.pbkdf2.specs.Pbkdf2.{pbkdf2}
 use Rattle.rules.specs.Checks.{first}
 use Rattle.rules.specs.Profiles.{profileAt, known}
@@ -26,8 +27,8 @@ use Rattle.rules.specs.Contracts.{DoesFormat}
 use Rattle.rules.proofs.ChecksLaws.{Pass, accepted}
 use Rattle.rules.proofs.RowLaws.{lawful-row}
 use Rattle.profiles.specs.declared.Profile.{Profile}
-use Rattle.profiles.specs.Rows.{rows}
-use Rattle.profiles.specs.Suites.{aesXtsSha1, suiteOf, built}
+use Rattle.profiles.specs.Rows.{hashOf, rows}
+use Rattle.profiles.specs.Suites.{aesXts, suiteOf, built}
 use Rattle.profiles.specs.Records.{IsProfile}
 use Rattle.profiles.proofs.Lawful.{rows-ok}
 use Rattle.formatting.proofs.FieldsLaws.{names, nameWidths, numbers, numberWidths, number-widths, parts-written, blank, length-records}
@@ -83,11 +84,12 @@ numbersOf a r sum = numbers (payloadStart (a .stripes) (r .«key_bytes»)) (r .�
 
 -- the three parts of its row are the header of the rules' row
 pub header-is : (a : FormatInput) (r : Profile) → IsProfile r (profileAt rows (a .profile)) → Widths (names r) nameWidths
-    → length (a .salt) ≡ 32 → length (a .uuid) ≡ 36 → (sum h₁ h₂ h₃ : List ℕ) → length sum ≡ 20 → sum ≡ pbkdf2 sha1 (a .key) (a .salt) (a .count) 20
+    → length (a .salt) ≡ 32 → length (a .uuid) ≡ 36 → (h : Hash) → h ≡ hashOf (a .profile)
+    → (sum h₁ h₂ h₃ : List ℕ) → length sum ≡ 20 → sum ≡ pbkdf2 (digestOf h) (a .key) (a .salt) (a .count) 20
     → h₁ ≡ splice (zeros 592) 0 (flatten (names r)) → h₂ ≡ splice h₁ 104 (flatten (numbersOf a r sum))
     → h₃ ≡ splice h₂ 208 (flatten (map (blank (a .stripes) (r .«key_bytes»)) slots)) → h₃ ≡ headerOf (suiteOf (a .profile)) (profileAt rows (a .profile)) a
-unfolding headerOf headFields checksumOf suiteOf aesXtsSha1
-header-is a r is v t u sum h₁ h₂ h₃ s e e₁ e₂ e₃ =
+unfolding headerOf headFields checksumOf suiteOf aesXts
+header-is a r is v t u h eh sum h₁ h₂ h₃ s e e₁ e₂ e₃ =
     let ms : List (List ℕ) = numbersOf a r sum in
     let records : List ℕ = flatten (map (blank (a .stripes) (r .«key_bytes»)) slots) in
     let w : Widths ms numberWidths = number-widths _ _ sum (a .salt) (a .count) (padded 40 (a .uuid)) s t (length-padded 40 (a .uuid) (omega arith)) in

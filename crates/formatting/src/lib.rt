@@ -29,8 +29,9 @@ fn header_of(
         (formatInput profile stripes (now (key .entry)) (now (salt .entry)) count (now (uuid .entry))) ⌝ }
 {
     let p = profiles::profile_at(profile);
+    let hash = profiles::hash_of(profile);
     let mut sum = [0u8; 20];
-    pbkdf2::pbkdf2_sha1(&mut sum, key, salt, count);
+    pbkdf2::pbkdf2(&mut sum, hash, key, salt, count);
     let mut h = [0u8; 592];
     crate::fields::put_names(&mut h, p);
     crate::fields::put_numbers(&mut h, stripes, p.key_bytes, &sum, salt, count, uuid);

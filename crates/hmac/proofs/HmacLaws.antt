@@ -1,4 +1,4 @@
--- Laws of HMAC over any lawful digest, and HMAC-SHA-1 from chaining words.
+-- Laws of HMAC over any lawful digest, and from the chaining words of any lawful compression function.
 use mathlib.Core.Path.{_≡_, sym, ap, ap₂, _∙_}
 use mathlib.Core.List.{List, _++_}
 use Prim.Native.Nat.{ℕ, _≤_, _<_}
@@ -9,8 +9,8 @@ use lib.ListN.{length}
 use Rattle.octets.specs.Octets.{Str, padded}
 use Rattle.octets.proofs.OctetsLaws.{length-padded, length-xors}
 use Rattle.digest.specs.Digest.{Digest, LawfulDigest}
-use Rattle.sha1.specs.Sha1.{sha1}
-use Rattle.sha1.proofs.Sha1Laws.{hash-after, lawful}
+use Rattle.digest.specs.Chaining.{Words, Compression, LawfulCompression, words, compressBlock, hash, chained}
+use Rattle.digest.proofs.ChainingLaws.{hash-after, lawful-digest}
 use Rattle.hmac.specs.Hmac.{keyBlock, xorPad, hmac}
 use Rattle.hmac.specs.Keyed.{keyed, finishKeyed}
 
@@ -44,15 +44,24 @@ module _ (H : Digest) (L : LawfulDigest H) (k : List ℕ) where
   unfolding hmac
   str-hmac m = L .str-hash (xorPad H 0x5c k ++ H .hash (xorPad H 0x36 k ++ m))
 
--- ---- SHA-1
+-- ---- any lawful compression function
 
--- the digest of a key block and m
-keyed-hash : (p : ℕ) (k m : List ℕ) → finishKeyed (keyed p k) m ≡ sha1 .hash (xorPad sha1 p k ++ m)
-unfolding keyed finishKeyed
-keyed-hash p k m = sym (hash-after (xorPad sha1 p k) m (length-xorPad sha1 lawful k p))
+module _ (C : Compression) (L : LawfulCompression C) where
+  pub length-keyed : (p : ℕ) (k : List ℕ) → length (keyed C p k) ≡ C .count
+  unfolding keyed compressBlock
+  length-keyed p k = L .length-compress (C .initial) (words (xorPad (chained C) p k) 16)
 
-pub hmac-keyed : (k m i o : List ℕ) → i ≡ keyed 0x36 k → o ≡ keyed 0x5c k → finishKeyed o (finishKeyed i m) ≡ hmac sha1 k m
-unfolding hmac
-hmac-keyed k m i o ei eo =
-    ap₂ (λ (x y : List ℕ). finishKeyed y (finishKeyed x m)) ei eo ∙ ap (finishKeyed (keyed 0x5c k)) (keyed-hash 0x36 k m)
-    ∙ keyed-hash 0x5c k (sha1 .hash (xorPad sha1 0x36 k ++ m))
+  pub words-keyed : (p : ℕ) (k : List ℕ) → Words (keyed C p k)
+  unfolding keyed compressBlock
+  words-keyed p k = L .words-compress (C .initial) (words (xorPad (chained C) p k) 16)
+
+  -- the digest of a key block and m
+  keyed-hash : (p : ℕ) (k m : List ℕ) → finishKeyed C (keyed C p k) m ≡ hash C (xorPad (chained C) p k ++ m)
+  unfolding keyed finishKeyed
+  keyed-hash p k m = sym (hash-after C (xorPad (chained C) p k) m (length-xorPad (chained C) (lawful-digest C L) k p))
+
+  pub hmac-keyed : (k m i o : List ℕ) → i ≡ keyed C 0x36 k → o ≡ keyed C 0x5c k → finishKeyed C o (finishKeyed C i m) ≡ hmac (chained C) k m
+  unfolding hmac
+  hmac-keyed k m i o ei eo =
+      ap₂ (λ (x y : List ℕ). finishKeyed C y (finishKeyed C x m)) ei eo ∙ ap (finishKeyed C (keyed C 0x5c k)) (keyed-hash 0x36 k m)
+      ∙ keyed-hash 0x5c k (hash C (xorPad (chained C) 0x36 k ++ m))

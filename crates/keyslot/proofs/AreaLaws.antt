@@ -6,7 +6,7 @@ use native.Mathlib.Nat.{mul-le-mul-right, mul-assoc}
 use native.Mathlib.Omega.{arith}
 use lib.ListN.{length, take, drop, length-drop}
 use lib.Seq.{take-all, take-at, drop-drop}
-use Rattle.sha1.specs.Sha1.{sha1}
+use Rattle.digest.specs.Digest.{Digest}
 use Rattle.pbkdf2.specs.Pbkdf2.{pbkdf2}
 use Rattle.suite.specs.Split.{running, split, mergeFrom, merge}
 use Rattle.suite.specs.Units.{inUnits}
@@ -14,34 +14,34 @@ use Rattle.suite.proofs.SplitLaws.{mergeFrom-append}
 use Rattle.splitter.specs.Diffuse.{diffuse}
 use Rattle.xts.specs.Xts.{xtsEncrypt, xtsDecrypt}
 use Rattle.xts.proofs.UnitLaws.{units-split}
-use Rattle.rules.specs.Facts.{keyMaterial, candidateOf}
-use Rattle.profiles.specs.Suites.{aesXtsSha1}
-use Rattle.rules.specs.Facts.{slotInput}
+use Rattle.rules.specs.Facts.{slotInput, keyMaterial, candidateOf}
+use Rattle.profiles.specs.Suites.{aesXts}
 
--- ---- the front of a buffer that was lent to a call, y, and the slot key in it
+-- ---- the front of a buffer that was lent to a call, y
 
 front-is : (n : ℕ) (y r q : List ℕ) → length y ≡ n → y ≡ q → take n (y ++ r) ≡ q
 front-is n y r q l e = take-at y r n l ∙ e
 
-pub slot-key-is : (passphrase salt : List ℕ) (count n : ℕ) (x y r : List ℕ) → length x ≡ n → length y ≡ n → y ≡ pbkdf2 sha1 passphrase salt count (length x)
-    → take n (y ++ r) ≡ pbkdf2 sha1 passphrase salt count n
-slot-key-is passphrase salt count n x y r lx ly e = front-is n y r (pbkdf2 sha1 passphrase salt count n) ly (e ∙ ap (pbkdf2 sha1 passphrase salt count) lx)
+module _ (H : Digest) where
+  -- the slot key in it
+  pub slot-key-is : (passphrase salt : List ℕ) (count n : ℕ) (x y r : List ℕ) → length x ≡ n → length y ≡ n → y ≡ pbkdf2 H passphrase salt count (length x)
+      → take n (y ++ r) ≡ pbkdf2 H passphrase salt count n
+  slot-key-is passphrase salt count n x y r lx ly e = front-is n y r (pbkdf2 H passphrase salt count n) ly (e ∙ ap (pbkdf2 H passphrase salt count) lx)
 
--- ---- the two calls
+  -- the two calls
+  pub keyMaterial-is : (L n count : ℕ) (key passphrase salt random a₁ a₂ k : List ℕ) → a₁ ≡ split (diffuse H) L n random key
+      → k ≡ pbkdf2 H passphrase salt count L → a₂ ≡ inUnits (xtsEncrypt k) 0 a₁
+      → a₂ ≡ keyMaterial (aesXts H) L n key (slotInput passphrase salt count random)
+  unfolding keyMaterial aesXts
+  keyMaterial-is L n count key passphrase salt random a₁ a₂ k e₁ ek e₂ =
+      e₂ ∙ ap₂ (λ (x y : List ℕ). inUnits (xtsEncrypt x) 0 y) ek e₁
 
-pub keyMaterial-is : (L n count : ℕ) (key passphrase salt random a₁ a₂ k : List ℕ) → a₁ ≡ split (diffuse sha1) L n random key
-    → k ≡ pbkdf2 sha1 passphrase salt count L → a₂ ≡ inUnits (xtsEncrypt k) 0 a₁
-    → a₂ ≡ keyMaterial aesXtsSha1 L n key (slotInput passphrase salt count random)
-unfolding keyMaterial aesXtsSha1
-keyMaterial-is L n count key passphrase salt random a₁ a₂ k e₁ ek e₂ =
-    e₂ ∙ ap₂ (λ (x y : List ℕ). inUnits (xtsEncrypt x) 0 y) ek e₁
-
-pub candidateOf-is : (L n count : ℕ) (passphrase salt area d k : List ℕ) (f : ℕ → List ℕ → List ℕ) → k ≡ pbkdf2 sha1 passphrase salt count L
-    → f ≡ xtsDecrypt k → d ≡ merge (diffuse sha1) L n (inUnits f 0 area)
-    → d ≡ candidateOf aesXtsSha1 L n passphrase salt count area
-unfolding candidateOf aesXtsSha1
-candidateOf-is L n count passphrase salt area d k f ek ef e =
-    e ∙ ap (λ (g : ℕ → List ℕ → List ℕ). merge (diffuse sha1) L n (inUnits g 0 area)) (ef ∙ ap xtsDecrypt ek)
+  pub candidateOf-is : (L n count : ℕ) (passphrase salt area d k : List ℕ) (f : ℕ → List ℕ → List ℕ) → k ≡ pbkdf2 H passphrase salt count L
+      → f ≡ xtsDecrypt k → d ≡ merge (diffuse H) L n (inUnits f 0 area)
+      → d ≡ candidateOf (aesXts H) L n passphrase salt count area
+  unfolding candidateOf aesXts
+  candidateOf-is L n count passphrase salt area d k f ek ef e =
+      e ∙ ap (λ (g : ℕ → List ℕ → List ℕ). merge (diffuse H) L n (inUnits g 0 area)) (ef ∙ ap xtsDecrypt ek)
 
 -- ---- lengths
 

@@ -1,11 +1,12 @@
 // A key slot's area: filling it, and its candidate (LUKS 1.2.2, sections 4.2 and 4.3).
+use hash::Hash;
 use xts::Keys;
 ghost use mathlib.Core.Path.{_≡_};
 ghost use mathlib.Core.Bool.{false};
 ghost use mathlib.Core.List.{List};
 ghost use Prim.Native.Nat.{ℕ, _+_, _-_, _*_, _%_, _≤_, _<_, _^_};
 ghost use lib.ListN.{length, take};
-ghost use Rattle.sha1.specs.Sha1.{sha1};
+ghost use Rattle.hash.specs.Hash.{digestOf};
 ghost use Rattle.pbkdf2.specs.Pbkdf2.{pbkdf2};
 ghost use Rattle.suite.specs.Split.{running, mergeFrom, merge};
 ghost use Rattle.suite.specs.Units.{inUnits};
@@ -13,21 +14,22 @@ ghost use Rattle.splitter.specs.Diffuse.{diffuse};
 ghost use Rattle.aes.specs.Planes.{Sliced};
 ghost use Rattle.xts.specs.Keys.{Ready, Under, unitDecrypt};
 ghost use Rattle.rules.specs.Facts.{slotInput, keyMaterial, candidateOf};
-ghost use Rattle.profiles.specs.Suites.{aesXtsSha1};
+ghost use Rattle.profiles.specs.Suites.{aesXts};
 
 // The key of l bytes that a passphrase gives, at the front of 64.
-fn slot_key(passphrase: &[u8], salt: &[u8], count: u32, l: usize) -> [u8; 64]
+fn slot_key(hash: Hash, passphrase: &[u8], salt: &[u8], count: u32, l: usize) -> [u8; 64]
     requires { ⌜ (l ≤ 64) × (1 ≤ count) × (length (now passphrase) < 2 ^ 61) × (length (now salt) < 2 ^ 60) ⌝ }
-    ensures { λ r. ⌜ take l r ≡ pbkdf2 sha1 (now (passphrase .entry)) (now (salt .entry)) count l ⌝ }
+    ensures { λ r. ⌜ take l r ≡ pbkdf2 (digestOf hash) (now (passphrase .entry)) (now (salt .entry)) count l ⌝ }
 {
     let mut k = [0u8; 64];
-    pbkdf2::pbkdf2_sha1(&mut k[..l], passphrase, salt, count);
+    pbkdf2::pbkdf2(&mut k[..l], hash, passphrase, salt, count);
     k
 }
 
 // Fills an area of n stripes: the key is split into it and enciphered there.
 pub fn fill(
     area: &mut [u8],
+    hash: Hash,
     key: &[u8],
     passphrase: &[u8],
     salt: &[u8],
@@ -38,12 +40,12 @@ pub fn fill(
     requires { ⌜ (1 ≤ n) × (n * length (now key) ≡ length (now area)) × (length (now random) ≡ (n - 1) * length (now key))
         × (32 ≤ length (now key)) × (length (now key) ≤ 64)
         × (length (now key) % 32 ≡ 0) × (1 ≤ count) × (length (now passphrase) < 2 ^ 61) × (length (now salt) < 2 ^ 60) ⌝ }
-    ensures { λ _. ⌜ now (area .exit) ≡ keyMaterial aesXtsSha1 (length (now (key .entry))) n (now (key .entry))
+    ensures { λ _. ⌜ now (area .exit) ≡ keyMaterial (aesXts (digestOf hash)) (length (now (key .entry))) n (now (key .entry))
         (slotInput (now (passphrase .entry)) (now (salt .entry)) count (now (random .entry))) ⌝ }
 {
     let l = key.len();
-    splitter::split_into(area, key, random, n);
-    let k = slot_key(passphrase, salt, count, l);
+    splitter::split_into(area, hash, key, random, n);
+    let k = slot_key(hash, passphrase, salt, count, l);
     xts::encrypt_all(area, 0, &k[..l]);
 }
 
@@ -61,6 +63,7 @@ fn decipher(b: &mut [u8], group: &[u8], u: u64, ks: &[u32], vs: &[u32], n: usize
 fn whole_group(
     d: &mut [u8],
     b: &mut [u8],
+    hash: Hash,
     group: &[u8],
     u: u64,
     ks: &[u32],
@@ -71,16 +74,17 @@ fn whole_group(
     requires { ⌜ (length (now b) ≡ length (now group)) × (length (now group) % 16 ≡ 0) × (u + length (now group) < 2 ^ 64) × ((n + 2) * 128 ≤ length (now ks))
         × ((n + 2) * 128 ≤ length (now vs)) × (length (now group) ≡ m * length (now d)) × (length (now d) ≤ 64) ⌝ }
     ensures { λ _. ⌜ ((f : ℕ → List ℕ → List ℕ) → Under false n (now (ks .entry)) (now (vs .entry)) f
-        → now (d .exit) ≡ running (diffuse sha1) (length (now (d .entry))) (now (d .entry)) m (inUnits f u (now (group .entry)))) ⌝ }
+        → now (d .exit) ≡ running (diffuse (digestOf hash)) (length (now (d .entry))) (now (d .entry)) m (inUnits f u (now (group .entry)))) ⌝ }
 {
     decipher(b, group, u, ks, vs, n);
-    splitter::add_stripes(d, b, m);
+    splitter::add_stripes(d, hash, b, m);
 }
 
 // The group with the last stripe, and m stripes before it, deciphered into b.
 fn last_group(
     d: &mut [u8],
     b: &mut [u8],
+    hash: Hash,
     group: &[u8],
     u: u64,
     ks: &[u32],
@@ -91,10 +95,10 @@ fn last_group(
     requires { ⌜ (length (now b) ≡ length (now group)) × (length (now group) % 16 ≡ 0) × (u + length (now group) < 2 ^ 64) × ((n + 2) * 128 ≤ length (now ks))
         × ((n + 2) * 128 ≤ length (now vs)) × (length (now group) ≡ m * length (now d) + length (now d)) × (length (now d) ≤ 64) ⌝ }
     ensures { λ _. ⌜ ((f : ℕ → List ℕ → List ℕ) → Under false n (now (ks .entry)) (now (vs .entry)) f
-        → now (d .exit) ≡ mergeFrom (diffuse sha1) (length (now (d .entry))) (now (d .entry)) m (inUnits f u (now (group .entry)))) ⌝ }
+        → now (d .exit) ≡ mergeFrom (diffuse (digestOf hash)) (length (now (d .entry))) (now (d .entry)) m (inUnits f u (now (group .entry)))) ⌝ }
 {
     decipher(b, group, u, ks, vs, n);
-    splitter::merge_from(d, b, m);
+    splitter::merge_from(d, hash, b, m);
 }
 
 // The stripes of l bytes in a group of 32 data units.
@@ -106,11 +110,19 @@ fn per_group(l: usize) -> usize
 }
 
 // The merged decryption of an area under the sliced key schedules ks and vs, group by group.
-fn merge_groups(d: &mut [u8], area: &[u8], n: usize, ks: &[u32], vs: &[u32], rounds: usize)
+fn merge_groups(
+    d: &mut [u8],
+    hash: Hash,
+    area: &[u8],
+    n: usize,
+    ks: &[u32],
+    vs: &[u32],
+    rounds: usize,
+)
     requires { ⌜ (1 ≤ n) × (n * length (now d) ≡ length (now area)) × (32 ≤ length (now d)) × (length (now d) ≤ 64) × (length (now d) % 32 ≡ 0)
         × ((rounds + 2) * 128 ≤ length (now ks)) × ((rounds + 2) * 128 ≤ length (now vs)) ⌝ }
     ensures { λ _. ⌜ ((f : ℕ → List ℕ → List ℕ) → Under false rounds (now (ks .entry)) (now (vs .entry)) f
-        → now (d .exit) ≡ merge (diffuse sha1) (length (now (d .entry))) n (inUnits f 0 (now (area .entry)))) ⌝ }
+        → now (d .exit) ≡ merge (diffuse (digestOf hash)) (length (now (d .entry))) n (inUnits f 0 (now (area .entry)))) ⌝ }
 {
     octets::clear(d);
     let per = per_group(d.len());
@@ -121,48 +133,57 @@ fn merge_groups(d: &mut [u8], area: &[u8], n: usize, ks: &[u32], vs: &[u32], rou
     while 16384 < len - at {
         let e = at + 16384;
         let u = (at / 512) as u64;
-        whole_group(d, &mut b, &area[at..e], u, ks, vs, rounds, per);
+        whole_group(d, &mut b, hash, &area[at..e], u, ks, vs, rounds, per);
         at = e;
         left -= per;
     }
     let k = len - at;
+    let m = left - 1;
     let u = (at / 512) as u64;
-    last_group(d, &mut b[..k], &area[at..], u, ks, vs, rounds, left - 1);
+    last_group(d, &mut b[..k], hash, &area[at..], u, ks, vs, rounds, m);
 }
 
 // The merged decryption of an area under an expanded key, whose schedule of the blocks is sliced in ks. (A function that slices both
 // schedules would hold a third on the stack.)
-fn merge_sliced(d: &mut [u8], area: &[u8], n: usize, ks: &[u32], keys: Keys)
+fn merge_sliced(d: &mut [u8], hash: Hash, area: &[u8], n: usize, ks: &[u32], keys: Keys)
     requires { ⌜ (1 ≤ n) × (n * length (now d) ≡ length (now area)) × (32 ≤ length (now d)) × (length (now d) ≤ 64) × (length (now d) % 32 ≡ 0)
         × (length (now ks) ≡ 1920) × Ready keys ⌝ }
     ensures { λ _. ⌜ (Sliced (keys .rounds + 2) (keys .blocks) (now (ks .entry))
-        → now (d .exit) ≡ merge (diffuse sha1) (length (now (d .entry))) n (inUnits (unitDecrypt keys) 0 (now (area .entry)))) ⌝ }
+        → now (d .exit) ≡ merge (diffuse (digestOf hash)) (length (now (d .entry))) n (inUnits (unitDecrypt keys) 0 (now (area .entry)))) ⌝ }
 {
     let v = keys.tweaks;
     let rounds = keys.rounds;
     let vs = cipher::slice_keys(&v, rounds + 2);
-    merge_groups(d, area, n, ks, &vs, rounds);
+    merge_groups(d, hash, area, n, ks, &vs, rounds);
 }
 
 // The merged decryption of an area under an expanded key.
-fn merge_units(d: &mut [u8], area: &[u8], n: usize, keys: Keys)
+fn merge_units(d: &mut [u8], hash: Hash, area: &[u8], n: usize, keys: Keys)
     requires { ⌜ (1 ≤ n) × (n * length (now d) ≡ length (now area)) × (32 ≤ length (now d)) × (length (now d) ≤ 64) × (length (now d) % 32 ≡ 0) × Ready keys ⌝ }
-    ensures { λ _. ⌜ now (d .exit) ≡ merge (diffuse sha1) (length (now (d .entry))) n (inUnits (unitDecrypt keys) 0 (now (area .entry))) ⌝ }
+    ensures { λ _. ⌜ now (d .exit) ≡ merge (diffuse (digestOf hash)) (length (now (d .entry))) n (inUnits (unitDecrypt keys) 0 (now (area .entry))) ⌝ }
 {
     let w = keys.blocks;
     let rounds = keys.rounds;
     let ks = cipher::slice_keys(&w, rounds + 2);
-    merge_sliced(d, area, n, &ks, keys);
+    merge_sliced(d, hash, area, n, &ks, keys);
 }
 
 // The candidate of an area of n stripes, in d; the area stays as it is.
-pub fn candidate(d: &mut [u8], area: &[u8], n: usize, passphrase: &[u8], salt: &[u8], count: u32)
+pub fn candidate(
+    d: &mut [u8],
+    hash: Hash,
+    area: &[u8],
+    n: usize,
+    passphrase: &[u8],
+    salt: &[u8],
+    count: u32,
+)
     requires { ⌜ (1 ≤ n) × (n * length (now d) ≡ length (now area)) × (32 ≤ length (now d)) × (length (now d) ≤ 64) × (length (now d) % 32 ≡ 0) × (1 ≤ count)
         × (length (now passphrase) < 2 ^ 61) × (length (now salt) < 2 ^ 60) ⌝ }
     ensures { λ _. ⌜ now (d .exit)
-        ≡ candidateOf aesXtsSha1 (length (now (d .entry))) n (now (passphrase .entry)) (now (salt .entry)) count (now (area .entry)) ⌝ }
+        ≡ candidateOf (aesXts (digestOf hash)) (length (now (d .entry))) n (now (passphrase .entry)) (now (salt .entry)) count (now (area .entry)) ⌝ }
 {
     let l = d.len();
-    let k = slot_key(passphrase, salt, count, l);
-    merge_units(d, area, n, xts::expand(&k[..l]));
+    let k = slot_key(hash, passphrase, salt, count, l);
+    merge_units(d, hash, area, n, xts::expand(&k[..l]));
 }

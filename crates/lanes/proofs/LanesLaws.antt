@@ -11,8 +11,11 @@ use lib.Seq.{take-all}
 use Rattle.octets.specs.Octets.{xors, _⊕_}
 use Rattle.octets.specs.Splice.{splice}
 use Rattle.octets.proofs.SpliceLaws.{take-splice}
-use Rattle.sha1.specs.Sha1.{_⊞_, rotl, f, k, next, schedule, mix, rounds, addWords, compressWords, digest}
-use Rattle.sha1.specs.Turns.{grow, turns}
+use Rattle.digest.specs.Chaining.{_⊞_, digest, schedule}
+use Rattle.digest.specs.Turns.{turns}
+use Rattle.digest.proofs.ChainingLaws.{all-elements}
+use Rattle.sha1.specs.Sha1.{rotl, f, k, next, mix, rounds, addWords, compressWords}
+use Rattle.sha1.specs.Turns.{grow, turn}
 use Rattle.sha1.proofs.RoundLaws.{turn-more, four-twenties, turns-rounds}
 use Rattle.lanes.specs.Lanes.{Each, lane, fourDigests, taps, joined, roundOf}
 
@@ -74,20 +77,10 @@ taps-lane w t i x e =
     let n16 : 16 + t - 16 ≡ t = omega arith in
     e ∙ rw (n3, n8, n14, n16, lane-at w i (t + 13), lane-at w i (t + 8), lane-at w i (t + 2), lane-at w i t)
 
--- a list of five is its five elements
-pub five : {A : Type 0} (d : A) (s : List A) → length s ≡ 5 → s ≡ getD s 0 d ∷ getD s 1 d ∷ getD s 2 d ∷ getD s 3 d ∷ getD s 4 d ∷ []
-five d [] h = absurd (omega arith)
-five d (a ∷ []) h = absurd (omega arith)
-five d (a ∷ b ∷ []) h = absurd (omega arith)
-five d (a ∷ b ∷ c ∷ []) h = absurd (omega arith)
-five d (a ∷ b ∷ c ∷ e ∷ []) h = absurd (omega arith)
-five d (a ∷ b ∷ c ∷ e ∷ g ∷ []) h = refl
-five d (a ∷ b ∷ c ∷ e ∷ g ∷ x ∷ s) h = absurd (omega arith)
-
--- the same of five words, in lane i
+-- five words, in lane i
 pub lane-five : (i : ℕ) (s : List (List ℕ)) → length s ≡ 5
     → getD (getD s 0 []) i 0 ∷ getD (getD s 1 []) i 0 ∷ getD (getD s 2 []) i 0 ∷ getD (getD s 3 []) i 0 ∷ getD (getD s 4 []) i 0 ∷ [] ≡ lane i s
-lane-five i s l = sym (ap (lane i) (five [] s l))
+lane-five i s l = sym (ap (lane i) (all-elements [] 5 s l))
 
 pub xor-lane : (i : ℕ) (s v : List (List ℕ)) (a b c d e : List ℕ) → length s ≡ 5 → length v ≡ 5
     → getD a i 0 ≡ bitXor (getD (getD s 0 []) i 0) (getD (getD v 0 []) i 0) → getD b i 0 ≡ bitXor (getD (getD s 1 []) i 0) (getD (getD v 1 []) i 0)
@@ -125,10 +118,10 @@ halved-lane i s h l = rw (lane-four 0 i h, or-zero-r (getD (getD s 2 []) i 0)) (
 
 -- a turn of the loop over the rounds: the word before its rotation was made a round ago
 pub turn-lane : (i : ℕ) (a : List ℕ × List ℕ) (w : List (List ℕ)) (v u : List ℕ) (g y x : List ℕ) (t j q c : ℕ)
-    → (lane i w, v) ≡ turns a t j → (t + j) / 20 ≡ q
+    → (lane i w, v) ≡ turns turn a t j → (t + j) / 20 ≡ q
     → getD y i 0 ≡ taps (lane i w) (16 + (t + j)) → getD g i 0 ≡ rotl 1 (getD y i 0) → x ≡ getD w (t + j) [] → c ≡ k q
     → u ≡ roundOf q c (getD x i 0) v
-    → (lane i (set w (t + j + 16) g), u) ≡ turns a t (j + 1)
+    → (lane i (set w (t + j + 16) g), u) ≡ turns turn a t (j + 1)
 unfolding grow next
 turn-lane i a w v u g y x t j q c e eq ey eg ex ec eu =
     let ew : lane i (set w (t + j + 16) g) ≡ grow (lane i w) (t + j) =
@@ -139,9 +132,9 @@ turn-lane i a w v u g y x t j q c e eq ey eg ex ec eu =
 -- ---- a block in lane i
 
 pub rounds-lane : (i : ℕ) (w wa wb wc wd s sa sb sc sd : List (List ℕ)) → length w ≡ 96
-    → (lane i wa, lane i sa) ≡ turns (lane i w, lane i s) 0 20 → (lane i wb, lane i sb) ≡ turns (lane i wa, lane i sa) 20 20
-    → (lane i wc, lane i sc) ≡ turns (lane i wb, lane i sb) 40 20 → (lane i wd, lane i sd) ≡ turns (lane i wc, lane i sc) 60 20
-    → lane i sd ≡ rounds (schedule (take 16 (lane i w)) 64) (lane i s) 80
+    → (lane i wa, lane i sa) ≡ turns turn (lane i w, lane i s) 0 20 → (lane i wb, lane i sb) ≡ turns turn (lane i wa, lane i sa) 20 20
+    → (lane i wc, lane i sc) ≡ turns turn (lane i wb, lane i sb) 40 20 → (lane i wd, lane i sd) ≡ turns turn (lane i wc, lane i sc) 60 20
+    → lane i sd ≡ rounds (schedule next (take 16 (lane i w)) 64) (lane i s) 80
 rounds-lane i w wa wb wc wd s sa sb sc sd l ea eb ec ed =
     ap (λ (x : List ℕ × List ℕ). x .1)
     (four-twenties (lane i w, lane i s) (lane i wa, lane i sa) (lane i wb, lane i sb) (lane i wc, lane i sc) (lane i wd, lane i sd) ea eb ec ed)
@@ -150,7 +143,7 @@ rounds-lane i w wa wb wc wd s sa sb sc sd l ea eb ec ed =
 pub added-lane : (i : ℕ) (s v : List (List ℕ)) (a b c d e m : List ℕ)
     → getD a i 0 ≡ getD (getD s 0 []) i 0 ⊞ getD (getD v 0 []) i 0 → getD b i 0 ≡ getD (getD s 1 []) i 0 ⊞ getD (getD v 1 []) i 0
     → getD c i 0 ≡ getD (getD s 2 []) i 0 ⊞ getD (getD v 2 []) i 0 → getD d i 0 ≡ getD (getD s 3 []) i 0 ⊞ getD (getD v 3 []) i 0
-    → getD e i 0 ≡ getD (getD s 4 []) i 0 ⊞ getD (getD v 4 []) i 0 → lane i v ≡ rounds (schedule m 64) (lane i s) 80
+    → getD e i 0 ≡ getD (getD s 4 []) i 0 ⊞ getD (getD v 4 []) i 0 → lane i v ≡ rounds (schedule next m 64) (lane i s) 80
     → lane i (a ∷ b ∷ c ∷ d ∷ e ∷ []) ≡ compressWords (lane i s) m
 unfolding compressWords addWords
 added-lane i s v a b c d e m ea eb ec ed ee ev =

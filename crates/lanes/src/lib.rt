@@ -8,13 +8,15 @@ ghost use Prim.Native.Nat.{_+_, _*_, _/_, _%_, _^_, _≤_, _<_};
 ghost use lib.Bits.{bitOr, bitXor};
 ghost use lib.ListN.{length, getD, take};
 ghost use Rattle.octets.specs.Octets.{xors};
-ghost use Rattle.sha1.specs.Sha1.{_⊞_, rotl, ch, parity, maj, f, schedule, rounds, compressWords};
-ghost use Rattle.sha1.specs.Turns.{turns};
+ghost use Rattle.digest.specs.Chaining.{_⊞_, ch, maj, schedule};
+ghost use Rattle.digest.specs.Turns.{turns};
+ghost use Rattle.sha1.specs.Sha1.{rotl, parity, f, next, rounds, compressWords};
+ghost use Rattle.sha1.specs.Turns.{turn};
 ghost use Rattle.lanes.specs.Lanes.{Each, lane, fourDigests, taps, joined, roundOf};
 
-// Five words for each lane, side by side.
-pub fn gather(a: [u32; 5], b: [u32; 5], c: [u32; 5], d: [u32; 5]) -> [[u32; 4]; 5]
-    ensures { λ r. ⌜ (lane 0 r ≡ a) × (lane 1 r ≡ b) × (lane 2 r ≡ c) × (lane 3 r ≡ d) ⌝ }
+// The first five words of each array in a lane of its own, side by side.
+pub fn gather(a: [u32; 8], b: [u32; 8], c: [u32; 8], d: [u32; 8]) -> [[u32; 4]; 5]
+    ensures { λ r. ⌜ (lane 0 r ≡ take 5 a) × (lane 1 r ≡ take 5 b) × (lane 2 r ≡ take 5 c) × (lane 3 r ≡ take 5 d) ⌝ }
 {
     [
         [a[0], b[0], c[0], d[0]],
@@ -25,19 +27,19 @@ pub fn gather(a: [u32; 5], b: [u32; 5], c: [u32; 5], d: [u32; 5]) -> [[u32; 4]; 
     ]
 }
 
-// The same five words in each lane.
-pub fn broadcast(s: [u32; 5]) -> [[u32; 4]; 5]
-    ensures { λ r. ⌜ Each (λ i. lane i r ≡ s) ⌝ }
+// The first five words of s in each lane.
+pub fn broadcast(s: [u32; 8]) -> [[u32; 4]; 5]
+    ensures { λ r. ⌜ Each (λ i. lane i r ≡ take 5 s) ⌝ }
 {
     gather(s, s, s, s)
 }
 
-// The five words of lane i.
-pub fn lane(s: [[u32; 4]; 5], i: usize) -> [u32; 5]
+// The five words of lane i, the first of eight.
+fn lane(s: [[u32; 4]; 5], i: usize) -> [u32; 8]
     requires { ⌜ i < 4 ⌝ }
-    ensures { λ r. ⌜ r ≡ lane i s ⌝ }
+    ensures { λ r. ⌜ take 5 r ≡ lane i s ⌝ }
 {
-    [s[0][i], s[1][i], s[2][i], s[3][i], s[4][i]]
+    [s[0][i], s[1][i], s[2][i], s[3][i], s[4][i], 0, 0, 0]
 }
 
 // The bytes of the four lanes, one after the other.
@@ -46,8 +48,8 @@ pub fn store(s: [[u32; 4]; 5]) -> [u8; 80]
 {
     let mut d = [0u8; 80];
     for i in 0..4 {
-        let b = sha1::store(lane(s, i));
-        octets::copy_into(&mut d, 20 * i, &b);
+        let b = digest::store(lane(s, i));
+        octets::copy_into(&mut d, 20 * i, &b[..20]);
     }
     d
 }
@@ -224,7 +226,7 @@ fn taps_at(w: &[[u32; 4]; 96], t: usize) -> [u32; 4]
 fn twenty(w: &mut [[u32; 4]; 96], s: [[u32; 4]; 5], q: usize) -> [[u32; 4]; 5]
     requires { ⌜ q < 4 ⌝ }
     ensures { λ r. ⌜ (length (now (w .exit)) ≡ length (now (w .entry)))
-        × Each (λ i. (lane i (now (w .exit)), lane i r) ≡ turns (lane i (now (w .entry)), lane i s) (20 * q) 20) ⌝ }
+        × Each (λ i. (lane i (now (w .exit)), lane i r) ≡ turns turn (lane i (now (w .entry)), lane i s) (20 * q) 20) ⌝ }
 {
     let zero = [0u32; 4];
     let c = sha1::round_constant(q);
@@ -245,7 +247,7 @@ fn twenty(w: &mut [[u32; 4]; 96], s: [[u32; 4]; 5], q: usize) -> [[u32; 4]; 5]
 // The 80 rounds over the block in the first 16 words of w.
 fn all_rounds(w: &mut [[u32; 4]; 96], s: [[u32; 4]; 5]) -> [[u32; 4]; 5]
     requires { ⌜ length (now w) ≡ 96 ⌝ }
-    ensures { λ r. ⌜ (length (now (w .exit)) ≡ 96) × Each (λ i. lane i r ≡ rounds (schedule (take 16 (lane i (now (w .entry)))) 64) (lane i s) 80) ⌝ }
+    ensures { λ r. ⌜ (length (now (w .exit)) ≡ 96) × Each (λ i. lane i r ≡ rounds (schedule next (take 16 (lane i (now (w .entry)))) 64) (lane i s) 80) ⌝ }
 {
     let a = twenty(w, s, 0);
     let b = twenty(w, a, 1);

@@ -19,7 +19,7 @@ use Rattle.rules.specs.Facts.{factsOf}
 use Rattle.rules.specs.Calls.{write, rangeChecks, keyOk, bytesRead}
 use Rattle.rules.specs.Step.{written, writes}
 use Rattle.rules.proofs.ChecksLaws.{accepted}
-use Rattle.profiles.specs.Suites.{aesXtsSha1}
+use Rattle.profiles.specs.Suites.{aesXts}
 use Rattle.header.specs.Records.{factsIn, HeaderOk}
 use Rattle.header.proofs.SoundLaws.{sound}
 use Rattle.slots.proofs.AreaLaws.{suite-is}
@@ -87,24 +87,24 @@ module _ (image : List ℕ) (ok : HeaderOk image) (key : List ℕ) (u n : ℕ) (
     -- the units' part of the image, copied over the whole buffer and deciphered there
     pub read-is : (copied after : List ℕ) → copied ≡ splice buffer 0 (take (end - at) (drop at image)) → after ≡ inUnits (xtsDecrypt key) u copied
         → after ≡ bytesRead (factsIn image) key u n
-    unfolding bytesRead part aesXtsSha1 factsOf
+    unfolding bytesRead part aesXts factsOf
     read-is copied after c d =
         let m : end - at ≡ n * 512 = omega (arith, room .size) in
         let units : List ℕ = part (factsIn image .payload) (u * 512) (n * 512) in
         let p : take (end - at) (drop at image) ≡ units
         = ap₂ (λ (i o : ℕ). take i (drop o image)) m a ∙ sym (ap (take (n * 512)) (drop-drop (u * 512) (be32At image 104 * 512) image)) in
         d ∙ ap (inUnits (xtsDecrypt key) u) (c ∙ splice-all buffer (take (end - at) (drop at image)) (length-lent image at (length buffer) fits) ∙ p)
-        ∙ ap (λ (S : Suite). inUnits (S .decipher key) u units) (sym (suite-is image))
+        ∙ ap (λ (S : Suite). inUnits (S .decipher key) u units) (suite-is image _ refl)
 
     -- the buffer, copied into the image and enciphered there
     pub written-is : (copied ciphered : List ℕ) → copied ≡ splice image at buffer → ciphered ≡ inUnits (xtsEncrypt key) u (take (end - at) (drop at copied))
         → length ciphered ≡ length buffer
         → take at copied ++ (ciphered ++ drop (end - at) (drop at copied)) ≡ written (writes (factsIn image) (write key u n buffer)) image
-    unfolding written writes part aesXtsSha1
+    unfolding written writes part aesXts
     written-is copied ciphered c d l =
         let m : end - at ≡ length buffer = omega arith in
         let b : take (end - at) (drop at copied) ≡ buffer = ap₂ (λ (i : ℕ) (x : List ℕ). part x at i) m c ∙ part-splice-same image at buffer fits in
         let s : ciphered ≡ inUnits (factsIn image .suite .encipher key) u buffer
-        = d ∙ ap (inUnits (xtsEncrypt key) u) b ∙ ap (λ (S : Suite). inUnits (S .encipher key) u buffer) (sym (suite-is image)) in
+        = d ∙ ap (inUnits (xtsEncrypt key) u) b ∙ ap (λ (S : Suite). inUnits (S .encipher key) u buffer) (suite-is image _ refl) in
         splice-part copied ciphered at end (omega arith) (l ∙ sym m) ∙ ap (λ (x : List ℕ). splice x at ciphered) c
         ∙ splice-over image at buffer ciphered l fits ∙ ap₂ (splice image) a s

@@ -1,8 +1,8 @@
 -- Laws of PBKDF2 over any lawful digest: lengths and bytes, and the loops over its iterations and over the blocks of the derived key.
 use mathlib.Core.Path.{_≡_, refl, sym, ap, ap₂, _∙_}
 use mathlib.Core.List.{List, _++_}
-use Prim.Native.Nat.{ℕ, zero, suc, _+_, _-_, _*_, _≤_, _<_, min}
-use native.Mathlib.Nat.{mul-suc, mul-add, mul-comm, lt-div-mul-add}
+use Prim.Native.Nat.{ℕ, zero, suc, _+_, _-_, _*_, _^_, _≤_, _<_, min}
+use native.Mathlib.Nat.{mul-suc, mul-add, mul-comm, mul-le-mul-right, div-mul-le-self, lt-div-mul-add}
 use native.Mathlib.Omega.{arith}
 use lib.ListN.{length, take, length-take}
 use lib.Seq.{take-all, take-append-add}
@@ -45,6 +45,24 @@ str-folded D f u (suc n) hf h = str-xors (f (iterated f u n)) (str-folded D f u 
 -- the pieces are enough
 pieceCount-covers : (D n : ℕ) → 1 ≤ D → n ≤ D * pieceCount D n
 pieceCount-covers D n h = omega (arith, lt-div-mul-add {a = n + (D - 1)} {b = D} h, mul-comm D (pieceCount D n))
+
+-- a piece begins before the end
+pub piece-inside : (D n j : ℕ) → 1 ≤ D → j < pieceCount D n → D * j < n
+piece-inside D n j h k =
+    let a : (j + 1) * D ≤ pieceCount D n * D = mul-le-mul-right D (let e : j + 1 ≤ pieceCount D n = omega arith in e) in
+    let b : pieceCount D n * D ≤ n + (D - 1) = div-mul-le-self (n + (D - 1)) D in
+    omega (arith, mul-comm D j)
+
+-- numbers of four bytes are enough for blocks of at least 20
+few-blocks-by : (D n k : ℕ) → 20 ≤ D → n ≤ 20 * (2 ^ 32 - 1) → k ≤ pieceCount D n → k < 2 ^ 32
+few-blocks-by D n zero h l p = omega arith
+few-blocks-by D n (suc j) h l p =
+    let i : D * j < n = piece-inside D n j (omega arith) (omega arith) in
+    let a : 20 * j ≤ D * j = mul-le-mul-right j h in
+    omega arith
+
+pub few-blocks : (D n : ℕ) → 20 ≤ D → n ≤ 20 * (2 ^ 32 - 1) → pieceCount D n < 2 ^ 32
+few-blocks D n h l = few-blocks-by D n (pieceCount D n) h l (omega arith)
 
 -- a turn of a loop over blocks of D bytes: T n are the first n of them, and of the m blocks t after the first j as much as there is room
 -- for goes to its place in out

@@ -1,11 +1,13 @@
--- The table of the built profiles is lawful: its rows pass the tests, its suites obey the laws of a suite; merging undoes splitting with SHA-1.
+-- The table of the built profiles is lawful: its rows pass the tests, its suites obey the laws of a suite; merging undoes splitting with each hash.
 use mathlib.Core.Path.{_≡_, refl}
 use mathlib.Core.List.{List}
 use mathlib.Core.Bool.{true}
 use Prim.Native.Nat.{ℕ, _-_, _*_, _≤_}
 use Rattle.octets.specs.Octets.{Str, zeros, same}
-use Rattle.sha1.specs.Sha1.{sha1}
-use Rattle.sha1.proofs.Sha1Laws as sha1
+use Rattle.digest.specs.Digest.{Digest, LawfulDigest}
+use Rattle.hash.specs.declared.Hash.{Hash}
+use Rattle.hash.specs.Hash.{digestOf}
+use Rattle.hash.proofs.HashLaws as hash
 use Rattle.pbkdf2.proofs.Pbkdf2Laws.{str-pbkdf2}
 use Rattle.xts.proofs.XtsLaws.{str-xtsEncrypt, str-xtsDecrypt, xtsDecrypt-xtsEncrypt}
 use Rattle.splitter.specs.Diffuse.{diffuse}
@@ -15,20 +17,21 @@ use Rattle.suite.specs.Split.{split, merge}
 use Rattle.rules.specs.Checks.{every}
 use Rattle.rules.specs.Profiles.{holdsText, fits, numberOf, known}
 use Rattle.rules.specs.Lawful.{rowOk, finds, distinct, rowsOk, LawfulTable}
-use Rattle.profiles.specs.Rows.{aesXtsRow, rows}
-use Rattle.profiles.specs.Suites.{aesXtsSha1, suiteOf, built}
+use Rattle.profiles.specs.Rows.{nameOf, hashOf, aesXtsRow, rows}
+use Rattle.profiles.specs.Suites.{aesXts, suiteOf, built}
 
 -- the tests, over the whole table
 pub rows-ok : rowsOk rows ≡ true
-unfolding rowsOk every rowOk finds distinct known numberOf fits holdsText zeros same rows aesXtsRow
+unfolding rowsOk every rowOk finds distinct known numberOf fits holdsText zeros same nameOf hashOf aesXtsRow rows
 rows-ok = refl
 
-aesXtsSha1-lawful : (L : ℕ) → LawfulSuite aesXtsSha1 L
-unfolding aesXtsSha1
-aesXtsSha1-lawful L =
+-- aes and xts-plain64 with any lawful digest
+aesXts-lawful : (H : Digest) → LawfulDigest H → (L : ℕ) → LawfulSuite (aesXts H) L
+unfolding aesXts
+aesXts-lawful H ok L =
     record {
-      str-derive = λ password salt count n. str-pbkdf2 sha1 sha1.lawful password salt count n;
-      str-diffuse = str-diffuse sha1 sha1.lawful;
+      str-derive = λ password salt count n. str-pbkdf2 H ok password salt count n;
+      str-diffuse = str-diffuse H ok;
       str-encipher = λ key hk u n x hn hm hx. str-xtsEncrypt L key hk u n x hm hx;
       str-decipher = λ key hk u n x hn hm hx. str-xtsDecrypt L key hk u n x hm hx;
       decipher-encipher = λ key hk u n x hn hm hx. xtsDecrypt-xtsEncrypt L key hk u n x hm hx;
@@ -37,11 +40,12 @@ aesXtsSha1-lawful L =
 -- the suite of each number
 lawful : (k L : ℕ) → LawfulSuite (suiteOf k) L
 unfolding suiteOf
-lawful k L = aesXtsSha1-lawful L
+lawful k L = aesXts-lawful (digestOf (hashOf k)) (hash.lawful (hashOf k)) L
 
 pub built-lawful : LawfulTable built
 built-lawful = record { rows-ok = rows-ok; suites = λ k h. lawful k _ }
 
-merge-split-sha1 : (L n : ℕ) → 1 ≤ n → (random key : List ℕ) → Str ((n - 1) * L) random → Str L key
-    → merge (diffuse sha1) L n (split (diffuse sha1) L n random key) ≡ key
-merge-split-sha1 = diffused-merge-split sha1 sha1.lawful
+-- merging undoes splitting with each hash
+merge-split-hash : (h : Hash) (L n : ℕ) → 1 ≤ n → (random key : List ℕ) → Str ((n - 1) * L) random → Str L key
+    → merge (diffuse (digestOf h)) L n (split (diffuse (digestOf h)) L n random key) ≡ key
+merge-split-hash h = diffused-merge-split (digestOf h) (hash.lawful h)

@@ -1,20 +1,22 @@
--- The suite of each built profile (01, "Ciphers and hashes"), and the table that the calls use.
+-- The suite of each built profile (01, "Ciphers and hashes"; 02, Wish 1: "HMAC, PBKDF2 and the splitter take the hash from the header"),
+-- and the table that the calls use.
 use Prim.Native.Nat.{ℕ}
-use Rattle.sha1.specs.Sha1.{sha1}
+use Rattle.digest.specs.Digest.{Digest}
+use Rattle.hash.specs.Hash.{digestOf}
 use Rattle.pbkdf2.specs.Pbkdf2.{pbkdf2}
 use Rattle.xts.specs.Xts.{xtsEncrypt, xtsDecrypt}
 use Rattle.splitter.specs.Diffuse.{diffuse}
 use Rattle.suite.specs.Suite.{Suite}
 use Rattle.rules.specs.Profiles.{Table}
-use Rattle.profiles.specs.Rows.{rows}
+use Rattle.profiles.specs.Rows.{hashOf, rows}
 
--- HMAC-SHA-1 in PBKDF2, AES-XTS, and the splitter's H over SHA-1
-unfoldable pub aesXtsSha1 : Suite
-aesXtsSha1 = record { derive = pbkdf2 sha1; encipher = xtsEncrypt; decipher = xtsDecrypt; diffuse = diffuse sha1 }
+-- aes, xts-plain64 and a digest: PBKDF2 with HMAC over the digest, AES-XTS, and the splitter's H over the digest
+unfoldable pub aesXts : Digest → Suite
+aesXts H = record { derive = pbkdf2 H; encipher = xtsEncrypt; decipher = xtsDecrypt; diffuse = diffuse H }
 
--- the suite of the profile with number k: both profiles have aes, xts-plain64 and sha1
+-- the suite of the profile with number k
 unfoldable pub suiteOf : ℕ → Suite
-suiteOf k = aesXtsSha1
+suiteOf k = aesXts (digestOf (hashOf k))
 
 -- the table of profiles that the calls use
 abbrev pub built : Table

@@ -1,9 +1,10 @@
-// The table of profiles in code, looked up by number and by a header's fields.
+// The table of profiles in code, looked up by number and by a header's fields, and the hash of each profile.
+use hash::Hash;
 ghost use mathlib.Core.Path.{_≡_};
 ghost use mathlib.Core.Bool.{true};
 ghost use lib.ListN.{length};
 ghost use Rattle.rules.specs.Profiles.{numberOf, known, profileAt};
-ghost use Rattle.profiles.specs.Rows.{rows};
+ghost use Rattle.profiles.specs.Rows.{hashOf, rows};
 ghost use Rattle.profiles.specs.Records.{IsProfile, sameText, hasRow};
 
 // A row of the table of profiles. The names are padded with zeros as in a header.
@@ -23,7 +24,9 @@ const XTS_PLAIN64: [u8; 32] = *b"xts-plain64\0\0\0\0\0\0\0\0\0\0\0\0\0\0\0\0\0\0
 
 const SHA1: [u8; 32] = *b"sha1\0\0\0\0\0\0\0\0\0\0\0\0\0\0\0\0\0\0\0\0\0\0\0\0\0\0\0\0";
 
-const PROFILES: [Profile; 2] = [
+const SHA256: [u8; 32] = *b"sha256\0\0\0\0\0\0\0\0\0\0\0\0\0\0\0\0\0\0\0\0\0\0\0\0\0\0";
+
+const PROFILES: [Profile; 4] = [
     Profile {
         number: 1,
         cipher: AES,
@@ -38,7 +41,25 @@ const PROFILES: [Profile; 2] = [
         cipher: AES,
         mode: XTS_PLAIN64,
         hash: SHA1,
-        key_bytes: 64,
+        key_bytes: 64, // "the same with 64"
+        min_slot_count: 1000,
+        min_checksum_count: 1000,
+    },
+    Profile {
+        number: 3,
+        cipher: AES,
+        mode: XTS_PLAIN64,
+        hash: SHA256,
+        key_bytes: 32,
+        min_slot_count: 1000,
+        min_checksum_count: 1000,
+    },
+    Profile {
+        number: 4,
+        cipher: AES,
+        mode: XTS_PLAIN64,
+        hash: SHA256,
+        key_bytes: 64, // "the same, 64"
         min_slot_count: 1000,
         min_checksum_count: 1000,
     },
@@ -125,4 +146,15 @@ pub fn profile_at(number: u8) -> Profile
         i += 1;
     }
     PROFILES[0]
+}
+
+// The hash of the profile with this number.
+pub fn hash_of(number: u8) -> Hash
+    ensures { λ r. ⌜ r ≡ hashOf number ⌝ }
+{
+    match number {
+        3 => Hash::Sha256,
+        4 => Hash::Sha256,
+        _ => Hash::Sha1,
+    }
 }

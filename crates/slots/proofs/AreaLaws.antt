@@ -1,5 +1,5 @@
 -- A slot's area in an accepted drive: its room, its bytes, its candidate, and what is written of it.
-use mathlib.Core.Path.{_≡_, refl, sym, ap, ap₂, _∙_}
+use mathlib.Core.Path.{_≡_, sym, ap, ap₂, _∙_}
 use mathlib.Core.List.{List, _++_, append-nil}
 use mathlib.Core.Bool.{Bool, true, false}
 use Prim.Native.Nat.{ℕ, _+_, _-_, _*_, _≤_}
@@ -9,30 +9,33 @@ use Rattle.octets.specs.Octets.{bigEndian, be32, be32At, zeros, padded, same}
 use Rattle.octets.specs.Splice.{part, splice}
 use Rattle.octets.proofs.BoolLaws.{and-no, and-yes}
 use Rattle.octets.proofs.OctetsLaws.{drop-zeros}
-use Rattle.sha1.specs.Sha1.{sha1}
+use Rattle.hash.specs.declared.Hash.{Hash}
+use Rattle.hash.specs.Hash.{digestOf}
 use Rattle.pbkdf2.specs.Pbkdf2.{pbkdf2}
-use Rattle.rules.specs.Facts.{Facts, SlotFacts, factsOf, slotAt, slotOf, isEnabled, matches, checksumOf, slotInput, keyMaterial, candidateOf, candidate}
+use Rattle.rules.specs.Facts.{Facts, SlotFacts, factsOf, slotAt, slotOf, isEnabled, profileIn, matches, checksumOf, slotInput, keyMaterial, candidateOf, candidate}
 use Rattle.rules.specs.Calls.{slotNumberOk, opens}
 use Rattle.rules.specs.Step.{written, recordHead, slotWrites}
 use Rattle.rules.proofs.ArgumentLaws.{number-in}
 use Rattle.rules.proofs.StepLaws.{slotOf-image}
-use Rattle.profiles.specs.Suites.{aesXtsSha1, suiteOf, built}
+use Rattle.profiles.specs.Rows.{hashOf, rows}
+use Rattle.profiles.specs.Suites.{aesXts, suiteOf, built}
 use Rattle.header.specs.declared.Slot.{Slot}
 use Rattle.header.specs.Records.{factsIn, HeaderOk, IsSlot}
 use Rattle.header.proofs.SlotLaws.{stripes-fit}
 use Rattle.header.proofs.SoundLaws.{sound}
 
--- the suite of an image's profile
-pub suite-is : (image : List ℕ) → factsIn image .suite ≡ aesXtsSha1
-unfolding factsOf suiteOf
-suite-is image = refl
+module _ (image : List ℕ) (h : Hash) (eh : h ≡ hashOf (profileIn rows image)) where
+  -- the suite of an image's profile has the hash of the profile
+  pub suite-is : aesXts (digestOf h) ≡ factsIn image .suite
+  unfolding factsOf suiteOf
+  suite-is = ap (λ x. aesXts (digestOf x)) eh
 
--- the comparison that the code makes is the rules' own
-pub matches-is : (image key salt sum expected : List ℕ) (count : ℕ) (b : Bool) → count ≡ factsIn image .checksumCount → salt ≡ factsIn image .checksumSalt
-    → expected ≡ factsIn image .checksum → sum ≡ pbkdf2 sha1 key salt count 20 → b ≡ same sum expected → b ≡ matches (factsIn image) key
-unfolding matches checksumOf aesXtsSha1
-matches-is image key salt sum expected count b ec es ee e h =
-    h ∙ ap₂ same (e ∙ (λ j. (sym (suite-is image) j) .derive key (es j) (ec j) 20)) ee
+  -- the comparison that the code makes is the rules' own
+  pub matches-is : (key salt sum expected : List ℕ) (count : ℕ) (b : Bool) → count ≡ factsIn image .checksumCount → salt ≡ factsIn image .checksumSalt
+      → expected ≡ factsIn image .checksum → sum ≡ pbkdf2 (digestOf h) key salt count 20 → b ≡ same sum expected → b ≡ matches (factsIn image) key
+  unfolding matches checksumOf aesXts
+  matches-is key salt sum expected count b ec es ee e p =
+      p ∙ ap₂ same (e ∙ (λ j. (suite-is j) .derive key (es j) (ec j) 20)) ee
 
 -- ---- the area of a slot, whose record is r
 
@@ -70,11 +73,11 @@ module _ (image : List ℕ) (ok : HeaderOk image) (slot : ℕ) (h : slotNumberOk
       ∙ ap (λ (t : SlotFacts). take (t .stripes * be32At image 108) (drop (t .start * 512) image)) e
       ∙ sym (ap (λ (t : SlotFacts). t .area) e)
 
-  pub candidate-is : (passphrase area d : List ℕ) → area ≡ slotOf facts slot .area → d ≡ candidateOf aesXtsSha1 L (r .stripes) passphrase (r .salt) (r .count) area
-      → d ≡ candidate facts slot passphrase
+  pub candidate-is : (g : Hash) → g ≡ hashOf (profileIn rows image) → (passphrase area d : List ℕ) → area ≡ slotOf facts slot .area
+      → d ≡ candidateOf (aesXts (digestOf g)) L (r .stripes) passphrase (r .salt) (r .count) area → d ≡ candidate facts slot passphrase
   unfolding candidate
-  candidate-is passphrase area d ea e =
-      e ∙ (λ j. candidateOf (sym (suite-is image) j) (hL j) (i .stripes-is j) passphrase (i .salt-is j) (i .count-is j) (ea j))
+  candidate-is g eg passphrase area d ea e =
+      e ∙ (λ j. candidateOf (suite-is image g eg j) (hL j) (i .stripes-is j) passphrase (i .salt-is j) (i .count-is j) (ea j))
 
 -- ---- a trial
 
@@ -107,8 +110,9 @@ module _ (image : List ℕ) (slot start : ℕ) (s : start ≡ slotOf (factsIn im
   slot-written = e₂ ∙ ap (λ (a : List ℕ). splice a (208 + (slot - 1) * 48) head) (e₁ ∙ ap (λ (n : ℕ). splice image (n * 512) area) s)
 
 -- the area is the rules' key material
-pub material-is : (image : List ℕ) (slot n L count : ℕ) (key passphrase salt random area : List ℕ)
-    → n ≡ slotOf (factsIn image) slot .stripes → L ≡ factsIn image .profile .keyBytes → area ≡ keyMaterial aesXtsSha1 L n key (slotInput passphrase salt count random)
+pub material-is : (image : List ℕ) (h : Hash) → h ≡ hashOf (profileIn rows image) → (slot n L count : ℕ) (key passphrase salt random area : List ℕ)
+    → n ≡ slotOf (factsIn image) slot .stripes → L ≡ factsIn image .profile .keyBytes
+    → area ≡ keyMaterial (aesXts (digestOf h)) L n key (slotInput passphrase salt count random)
     → area ≡ keyMaterial (factsIn image .suite) (factsIn image .profile .keyBytes) (slotOf (factsIn image) slot .stripes) key (slotInput passphrase salt count random)
-material-is image slot n L count key passphrase salt random area en eL ea =
-    ea ∙ (λ j. keyMaterial (sym (suite-is image) j) (eL j) (en j) key (slotInput passphrase salt count random))
+material-is image h eh slot n L count key passphrase salt random area en eL ea =
+    ea ∙ (λ j. keyMaterial (suite-is image h eh j) (eL j) (en j) key (slotInput passphrase salt count random))

@@ -21,10 +21,11 @@ pub fn key_matches(image: &[u8], key: &[u8]) -> bool
     requires { ⌜ HeaderOk (now image) × (length (now key) ≤ 64) ⌝ }
     ensures { λ r. ⌜ r ≡ matches (factsIn (now (image .entry))) (now (key .entry)) ⌝ }
 {
+    let hash = header::facts::hash_in(image);
     let count = header::facts::checksum_count(image);
     let salt = header::facts::checksum_salt(image);
     let mut sum = [0u8; 20];
-    pbkdf2::pbkdf2_sha1(&mut sum, key, &salt, count);
+    pbkdf2::pbkdf2(&mut sum, hash, key, &salt, count);
     let expected = header::facts::checksum(image);
     octets::equal(&sum, &expected)
 }
@@ -35,12 +36,13 @@ fn slot_candidate(d: &mut [u8], image: &[u8], slot: u8, passphrase: &[u8])
         × (length (now d) ≡ factsIn (now image) .profile .keyBytes) × (passphraseOk (now passphrase) ≡ true) ⌝ }
     ensures { λ _. ⌜ now (d .exit) ≡ candidate (factsIn (now (image .entry))) slot (now (passphrase .entry)) ⌝ }
 {
+    let hash = header::facts::hash_in(image);
     let s = header::facts::slot_of(image, slot);
     let n = s.stripes as usize;
     let at = s.start.0 as usize * 512;
     let end = at + n * d.len();
     let salt = s.salt;
-    keyslot::candidate(d, &image[at..end], n, passphrase, &salt, s.count);
+    keyslot::candidate(d, hash, &image[at..end], n, passphrase, &salt, s.count);
 }
 
 // Tries a slot, counted from 1: a disabled one costs nothing, an enabled one its derivation and one checksum.
@@ -100,11 +102,21 @@ pub fn enable_slot(
     ensures { λ _. ⌜ (now (image .exit) ≡ written (enableWrites (factsIn (now (image .entry))) slot (now (key .entry))
         (slotInput (now (passphrase .entry)) (now (salt .entry)) count (now (random .entry)))) (now (image .entry))) × (length (now (salt .entry)) ≡ 32) ⌝ }
 {
+    let hash = header::facts::hash_in(image);
     let s = header::facts::slot_of(image, slot);
     let at = s.start.0 as usize * 512;
     let n = s.stripes as usize;
     let end = at + n * key.len();
-    keyslot::fill(&mut image[at..end], key, passphrase, salt, count, random, n);
+    keyslot::fill(
+        &mut image[at..end],
+        hash,
+        key,
+        passphrase,
+        salt,
+        count,
+        random,
+        n,
+    );
     put_head(image, slot, header::ENABLED, count, salt);
 }
 

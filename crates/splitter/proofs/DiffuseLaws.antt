@@ -1,10 +1,10 @@
--- Laws of the diffusion function over any lawful digest, and merging undoes splitting with it; with SHA-1 as the instance.
+-- Laws of the diffusion function over any lawful digest, and merging undoes splitting with it.
 use mathlib.Core.Path.{_≡_, sym, ap, _∙_}
 use mathlib.Core.List.{List, _++_, append-assoc}
 use Prim.Native.Nat.{ℕ, _+_, _-_, _*_, _≤_, _<_, min}
 use native.Mathlib.Omega.{arith}
 use lib.ListN.{length, take, drop, length-drop, length-append}
-use lib.Seq.{take-at, length-take-le}
+use lib.Seq.{take-at, take-take, length-take-le}
 use Rattle.octets.specs.Octets.{Str, be32}
 use Rattle.octets.specs.Pieces.{inPieces}
 use Rattle.octets.specs.Splice.{splice}
@@ -23,26 +23,29 @@ put-two b x y p b₁ b₂ n l ex e₁ e₂ =
     ap (take (n + length p)) (e₂ ∙ ap (λ (y : List ℕ). y ++ (p ++ drop (n + length p) b₁)) t ∙ sym (append-assoc x p (drop (n + length p) b₁)))
     ∙ take-at (x ++ p) (drop (n + length p) b₁) (n + length p) (length-append x p ∙ ap (λ (k : ℕ). k + length p) l)
 
--- a turn and the end of the loop in place
-module _ (H : Digest) (pos : 1 ≤ H .size) where
-  pub diffuse-step : (at n i : ℕ) (s s′ h q : List ℕ) → at < length s → n ≡ min (H .size) (length s - at) → length h ≡ H .size
-      → h ≡ H .hash (be32 i ++ take (at + n - at) (drop at s)) → s′ ≡ splice s at (take n h)
+module _ (H : Digest) (ok : LawfulDigest H) where
+  pos : 1 ≤ H .size
+  pos = omega (arith, ok .at-least)
+
+  -- a turn of the loop in place, where the digest stands at the front of h and d is its length
+  pub diffuse-step : (at n i d : ℕ) (s s′ h q : List ℕ) → d ≡ H .size → at < length s → n ≡ min d (length s - at) → d ≤ length h
+      → take (H .size) h ≡ H .hash (be32 i ++ take (at + n - at) (drop at s)) → s′ ≡ splice s at (take n h)
       → take at s ++ inPieces (H .size) (pieceDigest H) i (drop at s) ≡ q
       → take (at + n) s′ ++ inPieces (H .size) (pieceDigest H) (i + 1) (drop (at + n) s′) ≡ q
   unfolding splice pieceDigest
-  diffuse-step at n i s s′ h q ha en lh eh es e =
+  diffuse-step at n i d s s′ h q ed ha en lh eh es e =
       let k : at + n - at ≡ n = omega arith in
       let ly : length (take n h) ≡ n = length-take-le n h (omega arith) in
       let lx : length (take n (drop at s)) ≡ n = length-take-le n (drop at s) (omega (arith, length-drop at s)) in
-      pieces-step (H .size) pos (pieceDigest H) at n i s s′ (take n h) q ha en ly
-      (ap (take n) (eh ∙ ap (λ (m : ℕ). H .hash (be32 i ++ take m (drop at s))) k)
+      pieces-step (H .size) pos (pieceDigest H) at n i s s′ (take n h) q ha (en ∙ ap (λ (m : ℕ). min m (length s - at)) ed) ly
+      (sym (take-take n (H .size) h (omega (arith, ed, en))) ∙ ap (take n) (eh ∙ ap (λ (m : ℕ). H .hash (be32 i ++ take m (drop at s))) k)
       ∙ ap (λ (m : ℕ). take m (H .hash (be32 i ++ take n (drop at s)))) (sym lx))
       (es ∙ ap (λ (m : ℕ). take at s ++ (take n h ++ drop (at + m) s)) ly) e
 
+  -- its end
   pub diffuse-end : (at i : ℕ) (s q : List ℕ) → length s ≤ at → take at s ++ inPieces (H .size) (pieceDigest H) i (drop at s) ≡ q → s ≡ q
   diffuse-end = pieces-end (H .size) pos (pieceDigest H)
 
-module _ (H : Digest) (ok : LawfulDigest H) where
   str-pieceDigest : (i n : ℕ) (x : List ℕ) → n ≤ H .size → Unit {0} → Str n x → Str n (pieceDigest H i x)
   unfolding pieceDigest
   str-pieceDigest i n x l p h = rw (h .len) (str-crop n (ok .str-hash (be32 i ++ x)) l)
@@ -50,7 +53,7 @@ module _ (H : Digest) (ok : LawfulDigest H) where
   pub str-diffuse : (n : ℕ) (x : List ℕ) → Str n x → Str n (diffuse H x)
   unfolding diffuse
   str-diffuse n x h =
-      str-inPieces (H .size) (omega (arith, ok .at-least)) (λ n. Unit {0}) (λ n p. (tt, tt)) (pieceDigest H) str-pieceDigest 0 n x tt h
+      str-inPieces (H .size) pos (λ n. Unit {0}) (λ n p. (tt, tt)) (pieceDigest H) str-pieceDigest 0 n x tt h
 
   -- merging undoes splitting, for every number of stripes from 1 and every key length
   pub diffused-merge-split : (L n : ℕ) → 1 ≤ n → (random key : List ℕ) → Str ((n - 1) * L) random → Str L key

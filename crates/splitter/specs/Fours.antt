@@ -4,7 +4,7 @@ use mathlib.Core.List.{List, [], _∷_, _++_}
 use Prim.Native.Nat.{ℕ, _+_, _*_}
 use lib.ListN.{length, take, drop}
 use Rattle.octets.specs.Octets.{be32, be32At}
-use Rattle.sha1.specs.Sha1.{words, padding}
+use Rattle.digest.specs.Chaining.{words, padding}
 
 -- piece i of d
 abbrev pub piece : List ℕ → ℕ → List ℕ

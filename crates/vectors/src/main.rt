@@ -8,18 +8,21 @@ mod splits;
 mod units;
 
 fn main() {
-    digests::short_messages();
-    digests::one_million();
-    hmacs::cases_1_to_4();
-    hmacs::cases_5_to_7();
-    derivations::cases_1_to_4();
-    derivations::cases_5_and_6();
+    digests::sha1_messages();
+    digests::sha256_messages();
+    digests::long_messages();
+    hmacs::rfc2202_1_to_4();
+    hmacs::rfc2202_5_to_7();
+    hmacs::rfc4231_1_to_4();
+    hmacs::rfc4231_5();
+    hmacs::rfc4231_6_and_7();
+    derivations::rfc6070_1_to_4();
+    derivations::rfc6070_5_and_6();
+    derivations::rfc7914();
     blocks::keys_of_16();
     blocks::keys_of_32();
     units::annex_b();
     splits::diffusion();
-    splits::one_of_32();
-    splits::three_of_32();
-    splits::two_of_64();
-    splits::eight_of_64();
+    splits::sha1_stripes();
+    splits::sha256_stripes();
 }

@@ -4,6 +4,7 @@
 use crate::drive::Drive;
 use crate::timing::{once_on_processor, Figures};
 use crate::Outcome;
+use mivrozh::Profile;
 
 const RUNS: usize = 200;
 const COUNT: u32 = 1000;
@@ -13,18 +14,18 @@ pub fn areas() -> Outcome {
         "Beside the derivation of the slot's key, 4,000 stripes, checksum count 1,000, milliseconds of the processor:"
     );
     println!("(the least of {RUNS} runs, and the median in brackets)");
-    for bits in [256, 512] {
-        beside(bits, "open", |drive| drive.open())?;
-        beside(bits, "add ", |drive| drive.add())?;
+    for &profile in Profile::ALL {
+        beside(profile, "open", |drive| drive.open())?;
+        beside(profile, "add ", |drive| drive.add())?;
     }
     Ok(())
 }
 
 /// A derivation with this count is what twice the count takes more than the count once, at one stripe. The whole call
 /// less that is area and checksum; the whole call less the same call at one stripe is the area alone.
-fn beside(bits: usize, name: &str, call: fn(&mut Drive) -> Outcome) -> Outcome {
-    let mut drives =
-        [Drive::new(bits, 4000, COUNT, 0)?, Drive::new(bits, 1, 2 * COUNT, 0)?, Drive::new(bits, 1, COUNT, 0)?];
+fn beside(profile: Profile, name: &str, call: fn(&mut Drive) -> Outcome) -> Outcome {
+    let drive = |stripes, count| Drive::new(profile, stripes, count, 0);
+    let mut drives = [drive(4000, COUNT)?, drive(1, 2 * COUNT)?, drive(1, COUNT)?];
     let mut times = [Figures::new(), Figures::new(), Figures::new()];
     for _ in 0..RUNS {
         for (drive, times) in drives.iter_mut().zip(&mut times) {
@@ -37,8 +38,9 @@ fn beside(bits: usize, name: &str, call: fn(&mut Drive) -> Outcome) -> Outcome {
         (whole - (twice - single), whole - single)
     });
     println!(
-        "  key of {} bytes, {name}   area and checksum {:6.2} ({:6.2})   area {:6.2} ({:6.2})",
-        bits / 8,
+        "  {:6} key of {} bytes, {name}   area and checksum {:6.2} ({:6.2})   area {:6.2} ({:6.2})",
+        profile.hash().name(),
+        profile.key_bytes(),
         least.0,
         median.0,
         least.1,

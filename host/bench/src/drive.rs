@@ -1,6 +1,6 @@
 //! Our drives in memory, made and used by the library's calls.
 
-use mivrozh::raw;
+use mivrozh::{raw, Profile};
 
 pub const PASSPHRASE: &[u8] = b"passphrase";
 const SALT: [u8; 32] = [7; 32];
@@ -24,12 +24,12 @@ fn accepted(call: &str, number: u8) -> Result<(), String> {
 impl Drive {
     /// A drive with so many stripes a slot and so many payload units; at one stripe nothing but derivations takes time.
     /// Slots have this count, the first has a passphrase.
-    pub fn new(bits: usize, stripes: u32, count: u32, units: usize) -> Result<Drive, String> {
-        let key: Vec<u8> = (0..bits as u32 / 8).map(|i| i as u8).collect();
+    pub fn new(profile: Profile, stripes: u32, count: u32, units: usize) -> Result<Drive, String> {
+        let key: Vec<u8> = (0..profile.key_bytes() as u8).collect();
         let random = vec![0x11; (stripes as usize - 1) * key.len()];
         let start = if stripes == 1 { 65 } else { 4037 };
         let mut image = vec![0x5a; (start + units) * 512];
-        accepted("format", raw::format(&mut image, (bits / 256) as u8, stripes, &key, &SALT, 1000, &[b'u'; 36]))?;
+        accepted("format", raw::format(&mut image, profile.number(), stripes, &key, &SALT, 1000, &[b'u'; 36]))?;
         accepted("add", raw::add(&mut image, 1, &key, PASSPHRASE, &SALT, count, &random))?;
         let header = image[..1024].to_vec();
         Ok(Drive { image, key, random, count, header })

@@ -15,6 +15,7 @@ mod timing;
 mod transfer;
 
 use drive::Drive;
+use mivrozh::{Hash, Profile};
 use std::path::{Path, PathBuf};
 use std::process::{Command, ExitCode};
 use timing::{by_turns, least};
@@ -27,15 +28,20 @@ const RUNS: usize = 20;
 const LARGE: u32 = 40_000;
 const SMALL: u32 = 1_000;
 
-/// A derived key takes a value of HMAC for each count and each block of 20 bytes.
-fn pbkdf2(bits: usize) -> Outcome {
-    let bytes = bits / 8;
-    println!("PBKDF2-HMAC-SHA-1, key of {bytes} bytes, million HMAC values a second (two compressions each):");
-    let (large, small) = (Drive::new(bits, 1, LARGE, 0)?, Drive::new(bits, 1, SMALL, 0)?);
-    let values = (LARGE - SMALL) as f64 * bytes.div_ceil(20) as f64;
+/// A derived key takes a value of HMAC for each count and each block as long as a digest.
+fn pbkdf2(profile: Profile) -> Outcome {
+    let (name, digest) = match profile.hash() {
+        Hash::Sha1 => ("SHA-1", 20),
+        Hash::Sha256 => ("SHA-256", 32),
+        other => return Err(format!("how long a digest of {other:?} is must be said here")),
+    };
+    let bytes = profile.key_bytes();
+    println!("PBKDF2-HMAC-{name}, key of {bytes} bytes, million HMAC values a second (two compressions each):");
+    let (large, small) = (Drive::new(profile, 1, LARGE, 0)?, Drive::new(profile, 1, SMALL, 0)?);
+    let values = (LARGE - SMALL) as f64 * bytes.div_ceil(digest) as f64;
     for without in [peers::NOTHING, peers::SHA_EXTENSIONS] {
-        let (ours, theirs) = by_turns(RUNS, &mut || large.open(), &mut || peers::kdf(without, LARGE, bytes))?;
-        let (less, start) = by_turns(SHORT, &mut || small.open(), &mut || peers::kdf(without, SMALL, bytes))?;
+        let (ours, theirs) = by_turns(RUNS, &mut || large.open(), &mut || peers::kdf(without, profile, LARGE))?;
+        let (less, start) = by_turns(SHORT, &mut || small.open(), &mut || peers::kdf(without, profile, SMALL))?;
         let (ours, theirs) = (values / (ours - less) / 1e6, values / (theirs - start) / 1e6);
         println!("  ours {ours:6.2}   OpenSSL {theirs:6.2}   ratio {:5.2}   OpenSSL {}", ours / theirs, without.name);
     }
@@ -80,15 +86,22 @@ fn tool() -> Result<PathBuf, String> {
     }
 }
 
+/// Opening a drive of each profile, and adding to the one that has been measured from the start.
 fn slots() -> Outcome {
-    println!("Key slots of a drive that cryptsetup made (512-bit key, 4,000 stripes, count 100,000), milliseconds:");
+    println!("Key slots of drives that cryptsetup made (4,000 stripes, count 100,000), milliseconds:");
     let folder = Folder::new()?;
     let (first, new) = (folder.file("first", b"first")?, folder.file("new", b"new")?);
-    let image = folder.file("drive", &vec![0; 4200 * 512])?;
-    peers::format(&image, &first, "100000")?;
-    let bytes = std::fs::read(&image).map_err(|e| e.to_string())?;
-    opening(&image, &bytes, &first)?;
-    adding(&folder, &bytes, &first, &new)
+    for &profile in Profile::ALL {
+        println!(" {}, {}-bit key:", profile.hash().name(), 8 * profile.key_bytes());
+        let image = folder.file("drive", &vec![0; 4200 * 512])?;
+        peers::format(profile, &image, &first, "100000")?;
+        let bytes = std::fs::read(&image).map_err(|e| e.to_string())?;
+        opening(&image, &bytes, &first)?;
+        if profile == Profile::Key512 {
+            adding(&folder, &bytes, &first, &new)?;
+        }
+    }
+    Ok(())
 }
 
 fn opening(image: &Path, bytes: &[u8], first: &Path) -> Outcome {
@@ -126,11 +139,13 @@ fn adding(folder: &Folder, bytes: &[u8], first: &Path, new: &Path) -> Outcome {
 
 fn against_count() -> Outcome {
     println!("Opening against the count (512-bit key, one stripe, checksum count 1,000):");
-    for (count, runs) in [(1_000, SHORT), (10_000, RUNS), (100_000, RUNS), (1_000_000, 3)] {
-        let drive = Drive::new(512, 1, count, 0)?;
-        let seconds = least(runs, &mut || drive.open())?;
-        let each = seconds * 1e6 / count as f64;
-        println!("  count {count:9}   {:9.2} ms   {each:6.2} microseconds a count", seconds * 1e3);
+    for profile in [Profile::Key512, Profile::Sha256Key512] {
+        for (count, runs) in [(1_000, SHORT), (10_000, RUNS), (100_000, RUNS), (1_000_000, 3)] {
+            let drive = Drive::new(profile, 1, count, 0)?;
+            let seconds = least(runs, &mut || drive.open())?;
+            let (hash, each) = (profile.hash().name(), seconds * 1e6 / count as f64);
+            println!("  {hash:6} count {count:9}   {:9.2} ms   {each:6.2} microseconds a count", seconds * 1e3);
+        }
     }
     Ok(())
 }
@@ -138,7 +153,7 @@ fn against_count() -> Outcome {
 fn against_units() -> Outcome {
     println!("Reading against the number of units (512-bit key, checksum count 1,000):");
     let most = 16_384;
-    let drive = Drive::new(512, 1, SMALL, most)?;
+    let drive = Drive::new(Profile::Key512, 1, SMALL, most)?;
     let mut buffer = vec![0; most * 512];
     let checksum = least(SHORT, &mut || drive.read(0, &mut []))?;
     println!("  units       0   {:9.3} ms   the checksum", checksum * 1e3);
@@ -153,8 +168,8 @@ fn against_units() -> Outcome {
 type Part = (&'static str, fn() -> Outcome);
 
 const PARTS: [Part; 7] = [
-    ("pbkdf2", || pbkdf2(256).and_then(|()| pbkdf2(512))),
-    ("payload", || payload::payload(256).and_then(|()| payload::payload(512))),
+    ("pbkdf2", || Profile::ALL.iter().try_for_each(|&profile| pbkdf2(profile))),
+    ("payload", || [Profile::Key256, Profile::Key512].into_iter().try_for_each(payload::payload)),
     ("areas", areas::areas),
     ("slots", slots),
     ("counts", against_count),

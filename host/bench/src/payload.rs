@@ -4,6 +4,7 @@ use crate::drive::Drive;
 use crate::peers::{self, Without};
 use crate::timing::{mean, Figures};
 use crate::Outcome;
+use mivrozh::Profile;
 
 const UNITS: usize = 512;
 /// OpenSSL's kinds and the number of rounds of each: the one that a budget speaks of has the most.
@@ -12,10 +13,11 @@ const ROUNDS: usize = 12;
 
 /// In each round ours runs for a second of the processor's time, and then OpenSSL's of each kind, as `openssl speed`
 /// does it. So a round's figures are means of the same kind, and the best of ours is compared with the best of the other.
-pub fn payload(bits: usize) -> Outcome {
+pub fn payload(profile: Profile) -> Outcome {
+    let bits = 8 * profile.key_bytes();
     println!("Payload, {bits}-bit key, units of 512 bytes, megabytes a second of the processor:");
     println!("(the best of {ROUNDS} rounds, of 3 where OpenSSL has AES-NI or tables, and the median in brackets)");
-    let mut drive = Drive::new(bits, 1, 1000, UNITS)?;
+    let mut drive = Drive::new(profile, 1, 1000, UNITS)?;
     for (name, decipher) in [("read ", true), ("write", false)] {
         let (mut ours, mut theirs) = (Figures::new(), PEERS.map(|_| Figures::new()));
         for round in 0..ROUNDS {

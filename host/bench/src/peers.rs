@@ -1,5 +1,6 @@
 //! What is measured against: the commands `openssl` and `cryptsetup`.
 
+use mivrozh::Profile;
 use std::path::Path;
 use std::process::{Command, Stdio};
 
@@ -37,10 +38,11 @@ pub fn run(command: &mut Command) -> Result<String, String> {
     Ok(String::from_utf8_lossy(&out.stdout).into_owned())
 }
 
-/// One PBKDF2-HMAC-SHA1 derivation of a key of `bytes` bytes by `openssl kdf`.
-pub fn kdf(without: Without, count: u32, bytes: usize) -> Result<(), String> {
-    let (length, count) = (bytes.to_string(), format!("iter:{count}"));
-    let named = ["-kdfopt", "digest:SHA1", "-kdfopt", "pass:passphrase", "-kdfopt", "salt:saltsaltsaltsalt"];
+/// One PBKDF2 derivation of a key of the profile by `openssl kdf`.
+pub fn kdf(without: Without, profile: Profile, count: u32) -> Result<(), String> {
+    let (length, count) = (profile.key_bytes().to_string(), format!("iter:{count}"));
+    let digest = format!("digest:{}", profile.hash().name());
+    let named = ["-kdfopt", &digest, "-kdfopt", "pass:passphrase", "-kdfopt", "salt:saltsaltsaltsalt"];
     let mut command = openssl(without);
     command.args(["kdf", "-keylen", &length]).args(named).args(["-kdfopt", &count, "PBKDF2"]);
     run(&mut command).map(|_| ())
@@ -63,10 +65,11 @@ fn cryptsetup(arguments: &[&str], image: &Path) -> Result<(), String> {
     run(Command::new("cryptsetup").args(arguments).arg(image)).map(|_| ())
 }
 
-/// A drive of 512-bit keys with this count, the passphrase in slot 1.
-pub fn format(image: &Path, passphrase: &Path, count: &str) -> Result<(), String> {
+/// A drive with this count, the passphrase in slot 1.
+pub fn format(profile: Profile, image: &Path, passphrase: &Path, count: &str) -> Result<(), String> {
     let file = passphrase.to_str().expect("a path of text");
-    let drive = ["--type", "luks1", "--cipher", "aes-xts-plain64", "--hash", "sha1", "--key-size", "512"];
+    let (hash, bits) = (profile.hash().name(), (8 * profile.key_bytes()).to_string());
+    let drive = ["--type", "luks1", "--cipher", "aes-xts-plain64", "--hash", hash, "--key-size", &bits];
     let mut arguments = vec!["luksFormat", "--batch-mode", "--pbkdf-force-iterations", count, "--key-file", file];
     arguments.extend(drive);
     cryptsetup(&arguments, image)

@@ -27,7 +27,7 @@ const ITERATIONS: &[&str] = &["--iterations", "--iter-time"];
 const COMMANDS: [Command; 7] = [
     Command {
         name: "format",
-        values: &[&["--key-size", "--checksum-iterations", "--stripes", "--uuid"], ITERATIONS, KEY_FILE],
+        values: &[&["--hash", "--key-size", "--checksum-iterations", "--stripes", "--uuid"], ITERATIONS, KEY_FILE],
         flags: &["--force"],
         help: help::FORMAT,
         run: commands::format,

@@ -6,10 +6,11 @@ use crate::passphrase::{self, Source};
 use crate::random;
 use crate::rate;
 use crate::signatures;
+use crate::small;
 use crate::stages;
 use crate::transfer;
 use mivrozh::header::{Header, MOST_STRIPES, SECTOR};
-use mivrozh::{FormatInput, Opened, Profile, Refusal, Secret, SlotInput};
+use mivrozh::{FormatInput, Hash, Opened, Profile, Refusal, Secret, SlotInput};
 use std::time::Duration;
 
 // Where the user says nothing of a derivation's length.
@@ -18,11 +19,7 @@ const FIRST_SLOT: u8 = 1;
 
 pub fn format(given: &Given) -> Result<(), Failure> {
     let source = Source::of(given, "--key-file")?;
-    let profile = match given.number("--key-size")? {
-        Some(256) => Profile::Key256,
-        None | Some(512) => Profile::Key512,
-        Some(_) => return Err(given.command.usage("--key-size is 256 or 512")),
-    };
+    let profile = profile(given)?;
     let stripes = given.number_u32("--stripes")?.unwrap_or(MOST_STRIPES);
     let asked_for = given.number_u32("--checksum-iterations")?;
     let uuid = match given.value("--uuid") {
@@ -32,7 +29,7 @@ pub fn format(given: &Given) -> Result<(), Failure> {
     let key = random::bytes(profile.key_bytes())?;
     let mut image = ImageFile::open(given.image(), Purpose::Writing)?;
 
-    let count = iterations(given, profile.key_bytes())?;
+    let count = iterations(given, profile)?;
     let salt = random::salt()?;
     let checksum_count = asked_for.unwrap_or(rate::checksum_count(count));
     let input = FormatInput::new(profile, &key, &salt, checksum_count, &uuid).stripes(stripes);
@@ -42,6 +39,23 @@ pub fn format(given: &Given) -> Result<(), Failure> {
     let header = add_key(&mut image, FIRST_SLOT, &key, &passphrase, count)?;
     image.write_back(&stages::of_format(&header))?;
     say(format!("made a drive with the UUID {uuid}; key slot {FIRST_SLOT} holds the passphrase"))
+}
+
+// The profile that was asked for. The hash is sha1 unless another is named: a reader may know no other.
+fn profile(given: &Given) -> Result<Profile, Failure> {
+    let hash = match given.value("--hash") {
+        None => Hash::Sha1,
+        Some(name) => name
+            .to_str()
+            .and_then(Hash::named)
+            .ok_or_else(|| given.command.usage(&format!("--hash is sha1 or sha256, not '{}'", shown(name))))?,
+    };
+    let profile = match given.number("--key-size")? {
+        Some(256) => Profile::of(hash, 32),
+        None | Some(512) => Profile::of(hash, 64),
+        Some(_) => None,
+    };
+    profile.ok_or_else(|| given.command.usage("--key-size is 256 or 512"))
 }
 
 // Asks before anything but zeros is overwritten. The engine has made the new drive in memory by now.
@@ -70,7 +84,7 @@ pub fn add(given: &Given) -> Result<(), Failure> {
     given.check_standard_input()?;
     let (old_source, new_source) = (Source::of(given, "--key-file")?, Source::of(given, "--new-key-file")?);
     let (mut image, header) = checked(given, Purpose::Writing)?;
-    let count = iterations(given, header.key_bytes as usize)?;
+    let count = iterations(given, small::profile_of(image.bytes()).map_err(Failure::refused)?)?;
     let slot = free_slot(given.slot("--slot")?, &header)?;
     let opened = open(&mut image, None, &old_source, "Passphrase that the drive has: ")?;
     let passphrase = passphrase::new(&new_source, &format!("New passphrase, for key slot {slot}: "))?;
@@ -83,7 +97,7 @@ pub fn change(given: &Given) -> Result<(), Failure> {
     given.check_standard_input()?;
     let (old_source, new_source) = (Source::of(given, "--key-file")?, Source::of(given, "--new-key-file")?);
     let (mut image, header) = checked(given, Purpose::Writing)?;
-    let count = iterations(given, header.key_bytes as usize)?;
+    let count = iterations(given, small::profile_of(image.bytes()).map_err(Failure::refused)?)?;
     let to = free_slot(given.slot("--to")?, &header)?;
     let from = given.slot("--slot")?;
     let (opened, old) =
@@ -171,11 +185,11 @@ fn say(what: String) -> Result<(), Failure> {
 }
 
 // How often a derivation is iterated: as often as was asked for, or as is done here in the time that was asked for.
-fn iterations(given: &Given, key_bytes: usize) -> Result<u32, Failure> {
+fn iterations(given: &Given, profile: Profile) -> Result<u32, Failure> {
     match (given.number_u32("--iterations")?, given.number("--iter-time")?) {
         (Some(_), Some(_)) => Err(given.command.usage("--iterations and --iter-time cannot go together")),
         (Some(count), None) => Ok(count),
-        (None, Some(milliseconds)) => rate::count_for(key_bytes, Duration::from_millis(milliseconds)),
+        (None, Some(milliseconds)) => rate::count_for(profile, Duration::from_millis(milliseconds)),
         (None, None) => Ok(ITERATIONS),
     }
 }

@@ -73,6 +73,7 @@ fn values_of(option: &str, value: &str) -> Values {
         (_, "") => Values::None,
         (_, "FILE" | "IMAGE" | "FOLDER") => Values::Files,
         ("--slot" | "--to", _) => Values::Words(SLOTS),
+        ("--hash", _) => Values::Words(&["sha1", "sha256"]),
         ("--key-size", _) => Values::Words(&["256", "512"]),
         _ => Values::Other,
     }

@@ -50,8 +50,8 @@ impl Failure {
         let (Refusal::NoProfile, Some(names)) = (refusal, Names::of(image)) else { return Failure::refused(refusal) };
         let name = |bytes: &[u8]| format!("'{}'", shown(OsStr::from_bytes(bytes)));
         let sentence = format!(
-            "the drive has cipher {}, mode {}, hash {} and a key of {} bits; this tool knows aes, xts-plain64 and sha1 with \
-             256 or 512 bits; use a tool that knows the others",
+            "the drive has cipher {}, mode {}, hash {} and a key of {} bits; this tool knows aes, xts-plain64 and sha1 or \
+             sha256 with 256 or 512 bits; use a tool that knows the others",
             name(names.cipher),
             name(names.mode),
             name(names.hash),

@@ -60,6 +60,8 @@ stands before it is lost: an older drive, a file system or a partition table. Wh
 what it is and asked.
 
 Options:
+  --hash NAME                sha1 or sha256 (default sha1: a reader may know no other); ask for sha256 where every reader of
+                             the drive knows it
   --key-size BITS            256 or 512 (default 512)
   --iterations N             how often the slot's derivation is iterated, 1000 or more (default 500000)
   --iter-time MS             as often as this machine does in so many milliseconds

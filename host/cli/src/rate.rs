@@ -1,7 +1,7 @@
 //! How often a derivation is iterated: how often this machine does it in a given time, and what is usual for the checksum.
 use crate::failure::Failure;
 use crate::small::{self, LEAST_COUNT};
-use mivrozh::{Drive, Refusal, Secret, SlotInput};
+use mivrozh::{Drive, Profile, Refusal, Secret, SlotInput};
 use std::time::{Duration, Instant};
 
 // A measurement of about this time is exact enough.
@@ -17,10 +17,9 @@ pub fn checksum_count(slot_count: u32) -> u32 {
     }
 }
 
-/// The count with which this machine derives a key of so many bytes in the given time.
-pub fn count_for(key_bytes: usize, time: Duration) -> Result<u32, Failure> {
-    let key = Secret::zeroed(key_bytes);
-    let once = |count| derivation_time(&key, count).map_err(Failure::refused);
+/// The count with which this machine derives a key of the profile in the given time.
+pub fn count_for(profile: Profile, time: Duration) -> Result<u32, Failure> {
+    let once = |count| derivation_time(profile, count).map_err(Failure::refused);
     let short = once(10 * LEAST_COUNT)?;
     let count = scaled(10 * LEAST_COUNT, MEASURED, short);
     // The least of some measurements: other work on the machine makes them longer.
@@ -36,11 +35,11 @@ fn scaled(count: u32, time: Duration, took: Duration) -> u32 {
 }
 
 // How long an opening of a small drive in memory takes with this count.
-fn derivation_time(key: &Secret, count: u32) -> Result<Duration, Refusal> {
-    let mut image = small::drive(key)?;
-    let passphrase = Secret::zeroed(1);
+fn derivation_time(profile: Profile, count: u32) -> Result<Duration, Refusal> {
+    let (key, passphrase) = (Secret::zeroed(profile.key_bytes()), Secret::zeroed(1));
+    let mut image = small::drive(profile, &key)?;
     let mut drive = Drive::over(&mut image[..]);
-    drive.add(SLOT, key, &SlotInput::new(&passphrase, &[0; 32], count, &[]))?;
+    drive.add(SLOT, &key, &SlotInput::new(&passphrase, &[0; 32], count, &[]))?;
     let start = Instant::now();
     drive.open_slot(SLOT, &passphrase)?;
     Ok(start.elapsed())

@@ -1,4 +1,5 @@
 //! A small drive in memory, with one stripe a slot: to measure this machine by, and to have a key's checksum from.
+use mivrozh::header::Names;
 use mivrozh::{Drive, FormatInput, Profile, Refusal, Secret};
 use std::ops::Range;
 
@@ -10,25 +11,23 @@ const CHECKSUM: Range<usize> = 112..168;
 const LENGTH: usize = 70 * 512;
 const UUID: &str = "00000000-0000-0000-0000-000000000000";
 
-/// The profile whose keys have this length.
-pub fn profile(key_bytes: usize) -> Profile {
-    match key_bytes {
-        32 => Profile::Key256,
-        _ => Profile::Key512,
-    }
+/// The profile of a drive whose header the engine has checked.
+pub fn profile_of(image: &[u8]) -> Result<Profile, Refusal> {
+    Names::of(image).and_then(|names| names.profile()).ok_or(Refusal::NoProfile)
 }
 
 /// A drive with this key, the least checksum count and no passphrase.
-pub fn drive(key: &Secret) -> Result<Vec<u8>, Refusal> {
+pub fn drive(profile: Profile, key: &Secret) -> Result<Vec<u8>, Refusal> {
     let mut image = vec![0; LENGTH];
-    let input = FormatInput::new(profile(key.len()), key, &[0; 32], LEAST_COUNT, UUID);
+    let input = FormatInput::new(profile, key, &[0; 32], LEAST_COUNT, UUID);
     Drive::over(&mut image[..]).format(&input.stripes(1))?;
     Ok(image)
 }
 
-/// Gives a header the checksum of this key at the least count, in place of its own.
+/// Gives a header the checksum of this key at the least count, in place of its own. The hash is the header's.
 pub fn put_quick_checksum(header: &mut [u8], key: &Secret) -> Result<(), Refusal> {
-    header[CHECKSUM].copy_from_slice(&drive(key)?[CHECKSUM]);
+    let quick = drive(profile_of(header)?, key)?;
+    header[CHECKSUM].copy_from_slice(&quick[CHECKSUM]);
     Ok(())
 }
 
@@ -40,13 +39,14 @@ mod tests {
     // A drive whose checksum takes long: with the quick one the same key is right, and another wrong.
     #[test]
     fn a_quick_checksum_is_the_same_keys() {
-        for profile in [Profile::Key256, Profile::Key512] {
+        for &profile in Profile::ALL {
             let (key, other) = (Secret::from(vec![7; profile.key_bytes()]), Secret::from(vec![8; profile.key_bytes()]));
             let mut image = vec![0; LENGTH];
             let mut drive = Drive::over(&mut image[..]);
             drive.format(&FormatInput::new(profile, &key, &[3; 32], 5000, UUID).stripes(1)).expect("a drive");
             drive.add(1, &key, &SlotInput::new(&other, &[4; 32], 1000, &[])).expect("a passphrase");
             let before = image.clone();
+            assert_eq!(profile_of(&image), Ok(profile));
             put_quick_checksum(&mut image, &key).expect("a checksum");
             assert_ne!(image[CHECKSUM], before[CHECKSUM]);
             assert_eq!((&image[..112], &image[168..]), (&before[..112], &before[168..]), "nothing else is changed");

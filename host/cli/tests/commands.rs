@@ -72,6 +72,64 @@ fn format_has_sound_defaults() {
     assert_eq!(folder.line("test --key-file one new").accepted().out, "key slot 1 opens\n");
 }
 
+// The hash field of a header, up to its first zero byte.
+fn hash_of(image: &[u8]) -> &[u8] {
+    image[72..104].split(|&byte| byte == 0).next().expect("a part")
+}
+
+#[test]
+fn format_has_sha1_unless_another_hash_is_asked_for() {
+    let folder = Folder::with_drive();
+    assert_eq!(hash_of(&folder.get("drive")), b"sha1");
+    for (options, hash, key_bytes) in [
+        ("--hash sha1", "sha1", 64u32),
+        ("--hash=sha1 --key-size 256", "sha1", 32),
+        ("--hash sha256", "sha256", 64),
+        ("--key-size 512 --hash=sha256", "sha256", 64),
+        ("--hash sha256 --key-size 256", "sha256", 32),
+    ] {
+        folder.put("new", vec![0; LENGTH]);
+        let line = format!("format {options} --iterations 1000 --stripes {STRIPES} --key-file one new");
+        folder.line(&line).accepted();
+        let image = folder.get("new");
+        assert_eq!(image[8..72], folder.get("drive")[8..72], "{options}: cipher and mode");
+        assert_eq!(hash_of(&image), hash.as_bytes(), "{options}");
+        assert!(image[72 + hash.len()..104].iter().all(|&byte| byte == 0), "{options}");
+        assert_eq!(image[108..112], key_bytes.to_be_bytes(), "{options}");
+        assert_eq!(folder.line("test --key-file one new").accepted().out, "key slot 1 opens\n", "{options}");
+    }
+}
+
+// Every other command takes the hash from the header.
+#[test]
+fn the_life_of_a_sha256_drive() {
+    for size in ["256", "512"] {
+        let folder = Folder::with_drive();
+        let options = format!("--force --hash sha256 --key-size {size} --iterations 1000 --stripes {STRIPES}");
+        folder.line(&format!("format {options} --key-file one drive")).accepted();
+        folder.line("add --iterations 1000 --key-file one --new-key-file two --slot 7 drive").accepted();
+        assert_eq!(folder.line("test --key-file two drive").accepted().out, "key slot 7 opens\n");
+        assert!(!folder.opens("three"));
+
+        folder.put("plain", pattern(PAYLOAD_UNITS * 512));
+        folder.line("write --key-file two --in plain drive").accepted();
+        folder.line("change --iterations 1000 --slot 7 --to 3 --key-file two --new-key-file three drive").accepted();
+        assert!(folder.opens("one") && !folder.opens("two") && folder.opens("three"));
+        folder.line("revoke --force --slot 1 drive").accepted();
+        assert!(!folder.opens("one") && folder.opens("three"));
+        folder.line("read --key-file three --units 16 --out back drive").accepted();
+        assert_eq!(folder.get("back"), folder.get("plain"));
+        assert_eq!(hash_of(&folder.get("drive")), b"sha256");
+
+        // The header with the other name: the slot is there, and nothing opens by it.
+        let mut image = folder.get("drive");
+        image[72..104].fill(0);
+        image[72..76].copy_from_slice(b"sha1");
+        folder.put("drive", image);
+        folder.line("test --key-file three drive").refused(17, "no key slot opens with this passphrase");
+    }
+}
+
 #[test]
 fn format_makes_another_key_each_time() {
     let (one, two) = (Folder::with_drive(), Folder::with_drive());
@@ -279,6 +337,11 @@ fn iterations_by_number_and_by_time() {
     let image = folder.get("new");
     let second = u32::from_be_bytes(image[260..264].try_into().expect("four bytes"));
     assert!(second >= 1000 && second < slot, "{second} for 30 ms, {slot} for 300");
+
+    format("--hash sha256 --iter-time 100").accepted();
+    assert!(counts(&folder, "new").0 > 1000, "measured with the hash that was asked for");
+    folder.line("add --iter-time 30 --key-file one --new-key-file two new").accepted();
+    assert_eq!(folder.line("test --key-file two new").accepted().out, "key slot 2 opens\n");
 }
 
 #[test]

@@ -50,6 +50,12 @@ fn wrong_usage() {
     unchanged(&folder, "test --slot first --key-file one drive").failed(64, "--slot needs a number, not 'first'");
     unchanged(&folder, "test --slot -1 --key-file one drive").failed(64, "--slot needs a number, not '-1'");
     unchanged(&folder, "format --key-size 128 --key-file one drive").failed(64, "--key-size is 256 or 512");
+    for name in ["sha512", "SHA256", "sha-256", "md5"] {
+        let words = format!("--hash is sha1 or sha256, not '{name}'; see 'mivrozh format --help'");
+        unchanged(&folder, &format!("format --force --hash {name} --key-file one drive")).failed(64, &words);
+    }
+    unchanged(&folder, "format --force --hash= --key-file one drive").failed(64, "--hash is sha1 or sha256, not ''");
+    unchanged(&folder, "format --force --key-file one drive --hash").failed(64, "--hash needs a value");
     unchanged(&folder, "format --force=yes --key-file one drive").failed(64, "--force takes no value");
     unchanged(&folder, "revoke drive").failed(64, "--slot is missing");
     unchanged(&folder, "read --key-file one drive").failed(64, "--out is missing");
@@ -182,7 +188,12 @@ fn no_drive_or_a_foreign_or_damaged_one() {
             4,
             "cipher 'aes', mode 'cbc-essiv:sha256', hash 'sha1' and a key of 512 bits; this",
         ),
-        (72, b"sha256\0", 4, "cipher 'aes', mode 'xts-plain64', hash 'sha256' and a key of 512 bits; this tool knows"),
+        (
+            72,
+            b"sha512\0",
+            4,
+            "hash 'sha512' and a key of 512 bits; this tool knows aes, xts-plain64 and sha1 or sha256 with 256 or 512 bits",
+        ),
         (8, b"\x1b[2J\0", 4, "cipher '\\u{1b}[2J', mode 'xts-plain64'"),
         (208, &[1, 2, 3, 4], 5, "restore the header from a backup"),
         (248, &[0, 0, 0, 1], 6, "restore the header from a backup"),

@@ -113,6 +113,7 @@ fn bash_completes() {
     assert_eq!(offered(&folder, &["mivrozh", "revoke", "--slot", "=", ""]), slots);
     assert_eq!(offered(&folder, &["mivrozh", "revoke", "--slot", "="]), slots);
     assert_eq!(offered(&folder, &["mivrozh", "format", "--key-size", ""]), ["256", "512"]);
+    assert_eq!(offered(&folder, &["mivrozh", "format", "--hash", ""]), ["sha1", "sha256"]);
     assert!(offered(&folder, &["mivrozh", "format", "--iterations", ""]).is_empty());
     assert_eq!(offered(&folder, &["mivrozh", "completions", ""]), ["bash", "fish", "zsh"]);
     assert!(offered(&folder, &["mivrozh", "manual", ""]).is_empty());

@@ -3,7 +3,7 @@
 
 use crate::hands::{key_of, Hand};
 use crate::peers::{Cryptsetup, Qemu};
-use crate::work::{load, random, store, Checks, Folder, Outcome};
+use crate::work::{load, random, store, Checks, Folder, Kind, Outcome};
 use model::header::Header;
 use model::xts::SECTOR;
 use model::{Call, Model};
@@ -11,7 +11,7 @@ use std::path::{Path, PathBuf};
 
 const FIRST: &str = "first passphrase";
 const SECOND: &str = "2";
-const THIRD: &str = "a third passphrase, which is longer than the sixty-four bytes of a block of SHA-1";
+const THIRD: &str = "a third passphrase, which is longer than the sixty-four bytes of a block of either hash";
 const FOURTH: &str = "fourth";
 const FIFTH: &str = "fifth";
 const SIXTH: &str = "sixth";
@@ -41,7 +41,7 @@ pub struct Exchange<'a> {
     pub checks: &'a mut Checks,
     pub hand: &'a dyn Hand,
     pub maker: Maker,
-    pub bits: usize,
+    pub kind: Kind,
     pub cryptsetup: Cryptsetup<'a>,
     pub qemu: Qemu<'a>,
     pub image: PathBuf,
@@ -50,8 +50,8 @@ pub struct Exchange<'a> {
 }
 
 /// The sectors before the payload in the drives that are made here: of cryptsetup's and qemu's own choice, and 01's.
-fn payload_start(maker: Maker, bits: usize) -> usize {
-    match (maker, bits) {
+fn payload_start(maker: Maker, kind: Kind) -> usize {
+    match (maker, kind.bits) {
         (Maker::Ourselves, 256) => 2051,
         (Maker::Ourselves, _) => 4037,
         (_, 256) => 2056,
@@ -60,19 +60,19 @@ fn payload_start(maker: Maker, bits: usize) -> usize {
 }
 
 /// Makes a drive of `UNITS` units with the first passphrase in slot 1.
-pub fn make(folder: &Folder, hand: &dyn Hand, maker: Maker, bits: usize) -> Outcome<PathBuf> {
+pub fn make(folder: &Folder, hand: &dyn Hand, maker: Maker, kind: Kind) -> Outcome<PathBuf> {
     let image = folder.path.join("drive");
     let _ = std::fs::remove_file(&image);
-    let bytes = (payload_start(maker, bits) + UNITS) * SECTOR;
+    let bytes = (payload_start(maker, kind) + UNITS) * SECTOR;
     match maker {
-        Maker::Qemu => Qemu { folder }.format(&image, bits, FIRST, UNITS * SECTOR)?,
+        Maker::Qemu => Qemu { folder }.format(&image, kind, FIRST, UNITS * SECTOR)?,
         Maker::Cryptsetup => {
             store(&image, &vec![0; bytes])?;
-            Cryptsetup { folder }.format(&image, bits, FIRST)?;
+            Cryptsetup { folder }.format(&image, kind, FIRST)?;
         }
         Maker::Ourselves => {
             store(&image, &random(bytes)?)?;
-            hand.format(&image, bits, FIRST)?;
+            hand.format(&image, kind, FIRST)?;
         }
     }
     match load(&image)?.len() {
@@ -130,11 +130,13 @@ impl Exchange<'_> {
     fn keys(&mut self) -> Outcome<()> {
         let theirs = self.cryptsetup.volume_key(self.image(), FIRST)?;
         let bytes = load(&self.image)?;
+        let profile = Header::read(&bytes).profile().map(|p| p.number);
         let call = Call::Open { passphrase: SECOND.as_bytes().to_vec() };
         let models = Model::default().step(&bytes, &call);
         let ours = key_of(&bytes, SECOND)?;
         let c = &mut self.checks;
-        c.check("the key has the right length", theirs.len() == self.bits / 8)?;
+        c.check("the header has the profile", profile == Some(self.kind.profile()))?;
+        c.check("the key has the right length", theirs.len() == self.kind.bits / 8)?;
         c.check("our key is cryptsetup's volume key", ours == theirs)?;
         c.check("the model's key too", models.opened[2..2 + theirs.len()] == theirs[..])
     }

@@ -1,6 +1,6 @@
 //! Our side, by two hands: the library's calls, and the command-line tool.
 
-use crate::work::{load, output, random, salt, store, text, Folder, Outcome};
+use crate::work::{load, output, random, salt, store, text, Folder, Kind, Outcome};
 use mivrozh::raw;
 use model::header::Header;
 use model::xts::SECTOR;
@@ -11,7 +11,7 @@ const COUNT: u32 = 1000;
 /// Our calls on an image file. An opening gives the slot, or the number of the refusal as an error.
 pub trait Hand {
     fn name(&self) -> &'static str;
-    fn format(&self, image: &Path, bits: usize, passphrase: &str) -> Outcome<()>;
+    fn format(&self, image: &Path, kind: Kind, passphrase: &str) -> Outcome<()>;
     fn open_slot(&self, image: &Path, slot: u8, passphrase: &str) -> Outcome<Result<u8, u8>>;
     fn open(&self, image: &Path, passphrase: &str) -> Outcome<Result<u8, u8>>;
     fn add(&self, image: &Path, known: &str, slot: u8, new: &str) -> Outcome<()>;
@@ -58,11 +58,11 @@ impl Hand for Library {
         "library"
     }
 
-    fn format(&self, image: &Path, bits: usize, passphrase: &str) -> Outcome<()> {
+    fn format(&self, image: &Path, kind: Kind, passphrase: &str) -> Outcome<()> {
         let mut bytes = load(image)?;
-        let key = random(bits / 8)?;
+        let key = random(kind.bits / 8)?;
         let uuid = b"6d69767a-6f68-4256-8000-00000000live";
-        accepted("format", raw::format(&mut bytes, (bits / 256) as u8, 4000, &key, &salt()?, COUNT, uuid))?;
+        accepted("format", raw::format(&mut bytes, kind.profile(), 4000, &key, &salt()?, COUNT, uuid))?;
         let stripes = random(stripes_of(&bytes, 1, 1))?;
         accepted("add", raw::add(&mut bytes, 1, &key, passphrase.as_bytes(), &salt()?, COUNT, &stripes))?;
         store(image, &bytes)
@@ -176,10 +176,10 @@ impl Hand for Tool<'_> {
         "tool"
     }
 
-    fn format(&self, image: &Path, bits: usize, passphrase: &str) -> Outcome<()> {
-        let (file, bits) = (self.passphrase(passphrase)?, bits.to_string());
-        let options = ["--force", "--key-size", &bits, "--iterations", "1000", "--key-file", &file];
-        self.accepted(&[&["format"], &options[..], &[text(image)]].concat())
+    fn format(&self, image: &Path, kind: Kind, passphrase: &str) -> Outcome<()> {
+        let (file, bits) = (self.passphrase(passphrase)?, kind.bits.to_string());
+        let options = ["--force", "--hash", kind.hash.name(), "--key-size", &bits, "--iterations", "1000"];
+        self.accepted(&[&["format"], &options[..], &["--key-file", &file, text(image)]].concat())
     }
 
     fn open_slot(&self, image: &Path, slot: u8, passphrase: &str) -> Outcome<Result<u8, u8>> {

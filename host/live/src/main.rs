@@ -5,6 +5,7 @@
 //!
 //! Every drive lives in a folder of its own under the system's temporary folder, which is removed in the end.
 
+mod defaults;
 mod exchange;
 mod hands;
 mod peers;
@@ -16,18 +17,18 @@ use hands::{Hand, Library, Tool};
 use peers::{Cryptsetup, Qemu};
 use std::process::ExitCode;
 use std::time::Instant;
-use work::{Checks, Folder, Outcome};
+use work::{Checks, Folder, Kind, Outcome};
 
 fn exchanges(folder: &Folder, checks: &mut Checks) -> Outcome<()> {
     let tool = Tool::new(folder)?;
     let hands: [&dyn Hand; 2] = [&Library, &tool];
-    for bits in [256, 512] {
+    for kind in Kind::all() {
         for maker in [Maker::Cryptsetup, Maker::Qemu, Maker::Ourselves] {
             for hand in hands {
-                checks.drive = format!("{bits} bits, {}, by the {}", maker.name(), hand.name());
-                let image = make(folder, hand, maker, bits)?;
+                checks.drive = format!("{kind}, {}, by the {}", maker.name(), hand.name());
+                let image = make(folder, hand, maker, kind)?;
                 let (cryptsetup, qemu) = (Cryptsetup { folder }, Qemu { folder });
-                Exchange { checks, hand, maker, bits, cryptsetup, qemu, image, plain: Vec::new() }.run()?;
+                Exchange { checks, hand, maker, kind, cryptsetup, qemu, image, plain: Vec::new() }.run()?;
             }
         }
     }
@@ -35,10 +36,10 @@ fn exchanges(folder: &Folder, checks: &mut Checks) -> Outcome<()> {
 }
 
 fn rebuilds(folder: &Folder, checks: &mut Checks) -> Outcome<()> {
-    for bits in [256, 512] {
+    for kind in Kind::all() {
         for maker in [Maker::Cryptsetup, Maker::Qemu] {
-            checks.drive = format!("{bits} bits, {}, rebuilt", maker.name());
-            rebuild::rebuild(folder, checks, maker, bits)?;
+            checks.drive = format!("{kind}, {}, rebuilt", maker.name());
+            rebuild::rebuild(folder, checks, maker, kind)?;
         }
     }
     Ok(())
@@ -49,7 +50,8 @@ fn run(checks: &mut Checks) -> Outcome<()> {
     println!("{}", work::run("qemu-img", &["--version"])?.lines().next().unwrap_or_default());
     let folder = Folder::new()?;
     exchanges(&folder, checks)?;
-    rebuilds(&folder, checks)
+    rebuilds(&folder, checks)?;
+    defaults::defaults(&folder, checks)
 }
 
 fn main() -> ExitCode {

@@ -1,6 +1,6 @@
 //! cryptsetup and qemu-img as they are used on image files. Slots are counted as ours, from 1; theirs count from 0.
 
-use crate::work::{load, output, run, text, Folder, Outcome};
+use crate::work::{load, output, run, text, Folder, Kind, Outcome};
 use std::path::Path;
 
 const COUNT: [&str; 2] = ["--pbkdf-force-iterations", "1000"];
@@ -10,14 +10,21 @@ pub struct Cryptsetup<'a> {
 }
 
 impl Cryptsetup<'_> {
-    pub fn format(&self, image: &Path, bits: usize, passphrase: &str) -> Outcome<()> {
+    pub fn format(&self, image: &Path, kind: Kind, passphrase: &str) -> Outcome<()> {
+        let (size, hash) = (kind.bits.to_string(), kind.hash.name());
+        let drive = ["--cipher", "aes-xts-plain64", "--hash", hash, "--key-size", &size, "--align-payload", "1"];
+        self.luks_format(image, &drive, passphrase)
+    }
+
+    /// A drive of version 1 with nothing said of cipher, hash and key size.
+    pub fn format_by_default(&self, image: &Path, passphrase: &str) -> Outcome<()> {
+        self.luks_format(image, &[], passphrase)
+    }
+
+    fn luks_format(&self, image: &Path, options: &[&str], passphrase: &str) -> Outcome<()> {
         let file = self.folder.file("passphrase", passphrase.as_bytes())?;
-        let size = bits.to_string();
-        let drive = ["--type", "luks1", "--cipher", "aes-xts-plain64", "--hash", "sha1", "--align-payload", "1"];
-        let mut arguments = vec!["luksFormat", "--batch-mode", "--key-size", &size, "--key-file", text(&file)];
-        arguments.extend(COUNT.iter().chain(&drive));
-        arguments.push(text(image));
-        run("cryptsetup", &arguments).map(|_| ())
+        let first = ["luksFormat", "--batch-mode", "--type", "luks1", "--key-file", text(&file)];
+        run("cryptsetup", &[&first[..], &COUNT, options, &[text(image)]].concat()).map(|_| ())
     }
 
     pub fn add(&self, image: &Path, known: &str, slot: u8, new: &str) -> Outcome<()> {
@@ -89,11 +96,20 @@ impl Qemu<'_> {
         format!("driver=luks,key-secret=s,file.filename={}", text(image))
     }
 
-    pub fn format(&self, image: &Path, bits: usize, passphrase: &str, payload: usize) -> Outcome<()> {
-        let secret = self.secret("s", passphrase)?;
-        let cipher = format!("cipher-alg=aes-{},cipher-mode=xts,ivgen-alg=plain64,hash-alg=sha1", bits / 2);
-        let options = format!("key-secret=s,{cipher},iter-time=10");
-        let size = payload.to_string();
+    pub fn format(&self, image: &Path, kind: Kind, passphrase: &str, payload: usize) -> Outcome<()> {
+        let (bits, hash) = (kind.bits / 2, kind.hash.name());
+        let cipher = format!("cipher-alg=aes-{bits},cipher-mode=xts,ivgen-alg=plain64,hash-alg={hash},");
+        self.create(image, &cipher, passphrase, payload)
+    }
+
+    /// A drive with nothing said of cipher, hash and key size.
+    pub fn format_by_default(&self, image: &Path, passphrase: &str, payload: usize) -> Outcome<()> {
+        self.create(image, "", passphrase, payload)
+    }
+
+    fn create(&self, image: &Path, cipher: &str, passphrase: &str, payload: usize) -> Outcome<()> {
+        let (secret, size) = (self.secret("s", passphrase)?, payload.to_string());
+        let options = format!("key-secret=s,{cipher}iter-time=10");
         let arguments = ["create", "-q", "--object", &secret, "-f", "luks", "-o", &options, text(image), &size];
         self.measured(&arguments)
     }

@@ -3,7 +3,7 @@
 use crate::exchange::{make, Maker};
 use crate::hands::Library;
 use crate::peers::{Cryptsetup, Qemu};
-use crate::work::{load, random, store, Checks, Folder, Outcome};
+use crate::work::{load, random, store, Checks, Folder, Kind, Outcome};
 use mivrozh::raw;
 use model::header::{at, Header, Slot};
 use model::slots::Derivations;
@@ -23,8 +23,8 @@ struct Taken {
     stripes: Vec<u8>,
 }
 
-pub fn rebuild(folder: &Folder, checks: &mut Checks, maker: Maker, bits: usize) -> Outcome<()> {
-    let image = make(folder, &Library, maker, bits)?;
+pub fn rebuild(folder: &Folder, checks: &mut Checks, maker: Maker, kind: Kind) -> Outcome<()> {
+    let image = make(folder, &Library, maker, kind)?;
     peer_adds(folder, maker, &image)?;
     let theirs = load(&image)?;
     let key = Cryptsetup { folder }.volume_key(&image, FIRST)?;
@@ -33,7 +33,7 @@ pub fn rebuild(folder: &Folder, checks: &mut Checks, maker: Maker, bits: usize) 
         let rebuilt = add_again(&theirs, &key, one)?;
         checks.check(&format!("slot {} added again: the whole image is the peer's", one.slot), rebuilt == theirs)?;
     }
-    let ours = format_again(&theirs, &key, &taken)?;
+    let ours = format_again(&theirs, kind, &key, &taken)?;
     let head = |image: &[u8]| [&image[..at::PAYLOAD], &image[at::KEY_BYTES..592]].concat();
     checks.check(
         "formatted and added again: the header is the peer's but for the payload start",
@@ -85,12 +85,11 @@ fn add_again(theirs: &[u8], key: &[u8], taken: &Taken) -> Outcome<Vec<u8>> {
 }
 
 /// A new drive from the peer's key, checksum salt and count, UUID, and slots.
-fn format_again(theirs: &[u8], key: &[u8], taken: &[Taken]) -> Outcome<Vec<u8>> {
+fn format_again(theirs: &[u8], kind: Kind, key: &[u8], taken: &[Taken]) -> Outcome<Vec<u8>> {
     let header = Header::read(theirs);
     let mut image = random(theirs.len())?;
-    let profile = key.len() as u8 / 32;
     let uuid = &theirs[at::UUID..at::UUID + 36];
-    match raw::format(&mut image, profile, 4000, key, &header.salt, header.count, uuid) {
+    match raw::format(&mut image, kind.profile(), 4000, key, &header.salt, header.count, uuid) {
         0 => taken.iter().try_for_each(|one| add(&mut image, key, one)).map(|()| image),
         number => Err(format!("format is refused by {number}")),
     }

@@ -1,6 +1,8 @@
 //! What every check needs: a folder that is removed in the end, random bytes, commands that say why they failed, and
 //! named checks.
 
+use model::hash::Hash;
+use model::header::{Profile, PROFILES};
 use std::fs::File;
 use std::io::Read;
 use std::path::{Path, PathBuf};
@@ -8,6 +10,34 @@ use std::process::{Command, Output};
 
 /// A failure, as one sentence.
 pub type Outcome<T> = Result<T, String>;
+
+/// What kind of drive: its hash, and the bits of its key.
+#[derive(Clone, Copy, Debug, PartialEq)]
+pub struct Kind {
+    pub hash: Hash,
+    pub bits: usize,
+}
+
+impl Kind {
+    pub fn of(profile: &Profile) -> Kind {
+        Kind { hash: profile.hash, bits: 8 * profile.key_bytes }
+    }
+
+    pub fn all() -> [Kind; PROFILES.len()] {
+        PROFILES.each_ref().map(Kind::of)
+    }
+
+    /// The number of its profile.
+    pub fn profile(self) -> u8 {
+        PROFILES.iter().find(|p| Kind::of(p) == self).expect("every kind has a profile").number
+    }
+}
+
+impl std::fmt::Display for Kind {
+    fn fmt(&self, f: &mut std::fmt::Formatter<'_>) -> std::fmt::Result {
+        write!(f, "{}, {} bits", self.hash.name(), self.bits)
+    }
+}
 
 pub struct Folder {
     pub path: PathBuf,

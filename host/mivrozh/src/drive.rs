@@ -1,5 +1,5 @@
 //! The calls on a drive.
-use crate::{raw, Header, Refusal, Secret};
+use crate::{raw, Header, Profile, Refusal, Secret};
 use std::fmt;
 
 /// A drive in an image that was lent: the header, the eight key areas and the payload.
@@ -30,35 +30,6 @@ pub struct Drive<I> {
 /// A unit of the payload: 512 bytes, counted from 0 at the payload's start. Not a sector of the image.
 #[derive(Clone, Copy, Debug, PartialEq, Eq, PartialOrd, Ord, Hash)]
 pub struct PayloadUnit(pub u64);
-
-/// A profile fixes cipher, hash and key length. Later versions may have more of them, so a match has an arm for others:
-///
-/// ```compile_fail,E0004
-/// # use mivrozh::Profile;
-/// # let profile = Profile::Key256;
-/// match profile {
-///     Profile::Key256 => {}
-///     Profile::Key512 => {}
-/// }
-/// ```
-#[derive(Clone, Copy, Debug, PartialEq, Eq)]
-#[non_exhaustive]
-pub enum Profile {
-    /// aes, xts-plain64, sha1, a key of 32 bytes.
-    Key256 = 1,
-    /// aes, xts-plain64, sha1, a key of 64 bytes.
-    Key512 = 2,
-}
-
-impl Profile {
-    /// Bytes of the master key.
-    pub fn key_bytes(self) -> usize {
-        match self {
-            Profile::Key256 => 32,
-            Profile::Key512 => 64,
-        }
-    }
-}
 
 /// What a format needs. Key and salt are to come from a good source of randomness.
 ///
@@ -183,7 +154,7 @@ impl<I: AsRef<[u8]> + AsMut<[u8]>> Drive<I> {
     pub fn format(&mut self, input: &FormatInput) -> Result<(), Refusal> {
         answer(raw::format(
             self.image.as_mut(),
-            input.profile as u8,
+            input.profile.number(),
             input.stripes,
             input.key.expose(),
             input.salt,

@@ -1,4 +1,5 @@
 //! The numbers of a header that a caller needs before a call: key length, payload start, and the key slots' records.
+use crate::{Hash, Profile};
 
 /// Bytes of a sector and of a payload unit.
 pub const SECTOR: usize = 512;
@@ -103,6 +104,13 @@ impl Names<'_> {
         let bytes = image.get(..HEADER)?;
         let text = |at: usize| bytes[at..at + 32].split(|&byte| byte == 0).next().unwrap_or_default();
         Some(Names { cipher: text(8), mode: text(40), hash: text(72), key_bytes: number_at(bytes, 108) })
+    }
+
+    /// The profile that has these names and this key length; nothing where there is none, which the engine refuses (4).
+    pub fn profile(&self) -> Option<Profile> {
+        let hash = Hash::named(std::str::from_utf8(self.hash).ok()?)?;
+        let profile = Profile::of(hash, usize::try_from(self.key_bytes).ok()?);
+        profile.filter(|_| self.cipher == b"aes" && self.mode == b"xts-plain64")
     }
 }
 

@@ -26,14 +26,16 @@ pub mod header;
 #[allow(unsafe_code)]
 mod memory;
 mod platform;
+mod profile;
 #[allow(unsafe_code)]
 pub mod raw;
 mod refusal;
 mod secret;
 
-pub use drive::{Drive, FormatInput, Opened, PayloadUnit, Profile, SlotInput};
+pub use drive::{Drive, FormatInput, Opened, PayloadUnit, SlotInput};
 pub use header::Header;
 pub use memory::{lock_stack, LOCKED_STACK};
+pub use profile::{Hash, Profile};
 pub use refusal::Refusal;
 pub use secret::Secret;
 

@@ -75,8 +75,8 @@ impl Refusal {
             Refusal::Magic => "this is not a LUKS drive: its first bytes are others; check that it is the right file",
             Refusal::Version => "this drive is not LUKS version 1; use a tool for its version",
             Refusal::NoProfile => {
-                "the drive has another cipher, hash or key size than aes, xts-plain64 and sha1 with 256 or 512 bits; \
-                 use a tool that knows them"
+                "the drive has another cipher, hash or key size than aes, xts-plain64 and sha1 or sha256 with 256 or 512 \
+                 bits; use a tool that knows them"
             }
             Refusal::BadRecord => {
                 "the header is damaged: a count is 0, or a key slot's state or stripes are impossible; \
@@ -86,7 +86,10 @@ impl Refusal {
                 "the header is damaged or the image is cut short: the payload start or a key slot's area lies where it \
                  cannot; give the whole image, or restore the header from a backup"
             }
-            Refusal::UnknownProfile => "there is no such profile; use 1 (256-bit key) or 2 (512-bit key)",
+            Refusal::UnknownProfile => {
+                "there is no such profile; use 1 (sha1, 256-bit key), 2 (sha1, 512-bit key), 3 (sha256, 256-bit key) or \
+                 4 (sha256, 512-bit key)"
+            }
             Refusal::BadStripes => "the number of stripes must be 1 to 4,000; use 4,000 unless you know better",
             Refusal::KeyLength => "the master key has another length than the drive's profile; give the drive's own key",
             Refusal::LowCount => "the iteration count is too small; use 1,000 or more",

@@ -19,7 +19,7 @@
 #include <valgrind/memcheck.h>
 
 enum { UNIT = 512, IMAGE = 1024 * UNIT, MOST_KEY = 64, MOST_AREA = 40 * UNIT, COUNT = 1000, MOST_UNITS = 70, CHECKSUM = 20 };
-/* The third is longer than a block of SHA-1, so HMAC takes its digest. */
+/* The third is longer than a block of SHA-1 and of SHA-256, so HMAC takes its digest. */
 enum passphrase { FIRST, SECOND, THIRD, PASSPHRASES };
 
 static const size_t LENGTHS[PASSPHRASES] = {1, 64, 80};
@@ -93,7 +93,7 @@ static void expect(const char *what, unsigned number, unsigned expected) {
     unsigned now = VALGRIND_COUNT_ERRORS;
     must(is_public(&number, sizeof number), "the number comes from no secret");
     declare_public(&number, sizeof number);
-    printf("%-24s key of %2zu bytes, %3u stripes: %2u, %u reports\n", what, length, stripes, number, now - before);
+    printf("%-24s profile %u, key of %2zu bytes, %3u stripes: %2u, %u reports\n", what, profile, length, stripes, number, now - before);
     before = now;
     must(number == expected, what);
 }
@@ -112,14 +112,14 @@ static uint8_t *area(unsigned slot) {
 }
 
 /*
- * Around the library's PBKDF2, by valgrind. The arguments are what is made, its length, the passphrase, the salt, the count. What has
+ * Around the library's PBKDF2, by valgrind. The arguments are what is made, its length, the hash, the passphrase, the salt, the count. What has
  * 20 bytes is the checksum of a key and is public: that of the drive's key stands in the header, and whether that of another differs is
  * what the call answers. How many of its first bytes are the same may show too, since the comparison ends at the first that differs.
  */
-void I_WRAP_SONAME_FNNAME_ZZ(NONE, pbkdf2ZcZcpbkdf2Zusha1)(uint8_t *made, size_t many, const void *from, const void *with, size_t count) {
+void I_WRAP_SONAME_FNNAME_ZZ(NONE, pbkdf2ZcZcpbkdf2)(uint8_t *made, size_t many, size_t hash, const void *from, const void *with, size_t count) {
     OrigFn library;
     VALGRIND_GET_ORIG_FN(library);
-    CALL_FN_v_5W(library, made, many, from, with, count);
+    CALL_FN_v_6W(library, made, many, hash, from, with, count);
     must(many == CHECKSUM || many == length, "a checksum, or a key as long as the drive's");
     must(is_secret(made, many), "the marks have gone through PBKDF2");
     if (many != CHECKSUM) return;
@@ -219,7 +219,7 @@ static void read_refused(void) {
 /* Every call on a drive. AES works on 32 blocks at a time, so on 32 tweaks, or on the 32 blocks of a unit: the runs are shorter and longer. */
 static void life_of_a_drive(unsigned which_profile, unsigned number_of_stripes) {
     static const size_t RUNS[] = {1, 3, 33, MOST_UNITS};
-    profile = which_profile, stripes = number_of_stripes, length = 32 * which_profile, checksums = 0;
+    profile = which_profile, stripes = number_of_stripes, length = which_profile % 2 ? 32 : 64, checksums = 0;
     must(stripes * length <= MOST_AREA, "an area has room");
     format();
     add(1, FIRST);
@@ -242,11 +242,11 @@ static void life_of_a_drive(unsigned which_profile, unsigned number_of_stripes) 
 static int every_call(void) {
     fill(key, MOST_KEY, 1), fill(passphrases[0], sizeof passphrases, 2), fill(random_bytes, MOST_AREA, 3);
     fill(plain, sizeof plain, 4), fill(salt, sizeof salt, 5);
-    /* Areas of 96 and 192 bytes, and of 37 units and a half. */
-    life_of_a_drive(1, 3);
-    life_of_a_drive(1, 600);
-    life_of_a_drive(2, 3);
-    life_of_a_drive(2, 300);
+    /* Areas of 96 and 192 bytes, and of 37 units and a half; 1 and 2 have SHA-1, 3 and 4 SHA-256. */
+    for (unsigned which = 1; which <= 4; which++) {
+        life_of_a_drive(which, 3);
+        life_of_a_drive(which, which % 2 ? 600 : 300);
+    }
     must(VALGRIND_COUNT_ERRORS == 0, "no branch and no address comes from a secret");
     puts("all as expected");
     return 0;

@@ -1,5 +1,6 @@
 //! The safe binding: the calls on a drive, every refusal with its number and sentence.
-use mivrozh::{Drive, FormatInput, PayloadUnit, Profile, Refusal, Secret, SlotInput};
+use mivrozh::header::Names;
+use mivrozh::{Drive, FormatInput, Hash, PayloadUnit, Profile, Refusal, Secret, SlotInput};
 
 const UUID: &str = "6a2b1f0e-3c4d-4e5f-8a9b-0c1d2e3f4a5b";
 const COUNT: u32 = 1000;
@@ -36,11 +37,12 @@ fn image(profile: Profile) -> Vec<u8> {
 
 #[test]
 fn the_life_of_a_drive() {
-    for profile in [Profile::Key256, Profile::Key512] {
+    for &profile in Profile::ALL {
         let (mut image, key) = (image(profile), key(profile));
         let mut drive = Drive::over(&mut image);
         let header = drive.header().expect("a header");
         assert_eq!(header.key_bytes as usize, profile.key_bytes());
+        assert_eq!(Names::of(drive.image()).and_then(|names| names.profile()), Some(profile));
         assert_eq!(header.free_slot(), Some(2));
         let (random, filler) = (vec![6; header.random_length(7)], vec![7; header.area_length(1)]);
 
@@ -59,6 +61,52 @@ fn the_life_of_a_drive() {
         drive.read(&key, PayloadUnit(1), 2, &mut back).expect("two units");
         assert_eq!(plain, back);
         assert_eq!(drive.check(), Ok(()));
+    }
+}
+
+#[test]
+fn a_profile_has_its_number_its_hash_and_its_key_length() {
+    let all: Vec<(u8, &str, usize)> =
+        Profile::ALL.iter().map(|p| (p.number(), p.hash().name(), p.key_bytes())).collect();
+    assert_eq!(all, [(1, "sha1", 32), (2, "sha1", 64), (3, "sha256", 32), (4, "sha256", 64)]);
+    for &profile in Profile::ALL {
+        assert_eq!(Profile::of(profile.hash(), profile.key_bytes()), Some(profile));
+    }
+    assert_eq!(Profile::of(Hash::Sha1, 48), None);
+    assert_eq!(
+        ["sha1", "sha256", "sha512", "SHA1", ""].map(Hash::named).map(|hash| hash.is_some()),
+        [true, true, false, false, false]
+    );
+}
+
+// A header names the profile only where cipher, mode, hash and key length are those of one.
+#[test]
+fn a_headers_names_give_its_profile() {
+    let profile_with = |at: usize, bytes: &[u8]| {
+        let mut image = image(Profile::Sha256Key512);
+        image[at..at + bytes.len()].copy_from_slice(bytes);
+        Names::of(&image).and_then(|names| names.profile())
+    };
+    assert_eq!(profile_with(72, b"sha256\0later"), Some(Profile::Sha256Key512));
+    assert_eq!(profile_with(72, b"sha1\0"), Some(Profile::Key512));
+    assert_eq!(profile_with(108, &32u32.to_be_bytes()), Some(Profile::Sha256Key256));
+    assert_eq!(profile_with(108, &16u32.to_be_bytes()), None);
+    assert_eq!(profile_with(72, b"sha512\0"), None);
+    assert_eq!(profile_with(72, &[b's'; 32]), None);
+    assert_eq!(profile_with(40, b"cbc-essiv:sha256\0"), None);
+    assert_eq!(profile_with(8, b"serpent\0"), None);
+}
+
+// A header that names the other hash passes the header's check, and nothing opens by it.
+#[test]
+fn the_hash_is_the_headers() {
+    for (profile, other) in [(Profile::Key512, "sha256"), (Profile::Sha256Key512, "sha1")] {
+        let mut image = image(profile);
+        image[72..104].fill(0);
+        image[72..72 + other.len()].copy_from_slice(other.as_bytes());
+        let drive = Drive::over(&image[..]);
+        assert_eq!(drive.check(), Ok(()));
+        assert_eq!(drive.open(&passphrase("one")).err(), Some(Refusal::WrongKey));
     }
 }
 

@@ -26,6 +26,9 @@ static uint8_t buffer[UNITS * 512], opened[66], derived[DERIVED];
 static uint8_t *stack;
 static const uint8_t *frame;
 
+/* 2, then 4: keys of 64 bytes, with each of the hashes. */
+static uint8_t profile;
+
 static enum call call;
 static int wipes, number, done, released;
 
@@ -48,7 +51,7 @@ static void fill(uint8_t *bytes, size_t length, uint64_t seed) {
 
 static int make(enum call which) {
     switch (which) {
-    case FORMAT: return mivrozh_format(image, IMAGE, 2, STRIPES, key, KEY, salt, COUNT, UUID, 36);
+    case FORMAT: return mivrozh_format(image, IMAGE, profile, STRIPES, key, KEY, salt, COUNT, UUID, 36);
     case ADD: return mivrozh_add(image, IMAGE, 2, key, KEY, passphrase, PASSPHRASE, salt, COUNT, random_bytes, RANDOM);
     case OPEN_SLOT: return mivrozh_open_slot(image, IMAGE, 1, passphrase, PASSPHRASE, opened);
     case OPEN: return mivrozh_open(image, IMAGE, passphrase, PASSPHRASE, opened);
@@ -118,20 +121,29 @@ static struct left left_by(enum call which, int with_wiping) {
     return found;
 }
 
-int main(void) {
+/* Every call on drives of a profile. */
+static int as_expected(uint8_t which_profile) {
     int well = 1;
-    must(posix_memalign((void **)&stack, 4096, STACK) == 0, "memory");
-    fill(key, KEY, 1), fill(passphrase, PASSPHRASE, 2), fill(salt, 32, 3), fill(random_bytes, RANDOM, 4);
-    fill(filler, FILLER, 5);
+    profile = which_profile;
     /* The key that the passphrase derives begins like the checksum of a drive whose master key is that passphrase. */
-    must(mivrozh_format(image, IMAGE, 2, 1, passphrase, PASSPHRASE, salt, COUNT, UUID, 36) == 0, "the derived key");
+    must(mivrozh_format(image, IMAGE, profile, 1, passphrase, PASSPHRASE, salt, COUNT, UUID, 36) == 0, "the derived key");
     memcpy(derived, image + 112, DERIVED);
     for (enum call which = FORMAT; which < CALLS; which++) {
         struct left bare = left_by(which, 0), wiped = left_by(which, 1);
-        printf("%-9s leaves %u pieces of keys in %u bytes, and %u in %u after the wiping\n", NAMES[which], bare.pieces, bare.bytes,
-               wiped.pieces, wiped.bytes);
+        printf("profile %u: %-9s leaves %u pieces of keys in %u bytes, and %u in %u after the wiping\n", profile, NAMES[which],
+               bare.pieces, bare.bytes, wiped.pieces, wiped.bytes);
         well = well && bare.pieces > 0 && bare.bytes > 0 && wiped.pieces == 0 && wiped.bytes == 0;
     }
+    return well;
+}
+
+int main(void) {
+    int well;
+    must(posix_memalign((void **)&stack, 4096, STACK) == 0, "memory");
+    fill(key, KEY, 1), fill(passphrase, PASSPHRASE, 2), fill(salt, 32, 3), fill(random_bytes, RANDOM, 4);
+    fill(filler, FILLER, 5);
+    well = as_expected(2);
+    well = as_expected(4) && well;
     free(stack);
     puts(well ? "all as expected" : "not as expected");
     return well ? 0 : 1;

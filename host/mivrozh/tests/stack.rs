@@ -87,11 +87,14 @@ enum Call {
 
 const CALLS: [Call; 8] =
     [Call::Format, Call::Add, Call::OpenSlot, Call::Open, Call::Change, Call::Revoke, Call::Read, Call::Write];
+// The profiles with keys of `LENGTH` bytes, one of each hash.
+const PROFILES: [u8; 2] = [2, 4];
 // The calls that have a key or derive one.
 const KEYED: [Call; 7] = [Call::Format, Call::Add, Call::OpenSlot, Call::Open, Call::Change, Call::Read, Call::Write];
 
 // A drive with passphrases in slots 1 and 8, and the arguments of every call. All of it stands on the heap.
 struct Scene {
+    profile: u8,
     image: Vec<u8>,
     key: Vec<u8>,
     first: Vec<u8>,
@@ -104,8 +107,9 @@ struct Scene {
 }
 
 impl Scene {
-    fn new() -> Scene {
+    fn new(profile: u8) -> Scene {
         let mut scene = Scene {
+            profile,
             image: vec![0; IMAGE],
             key: bytes(1, LENGTH),
             first: bytes(2, 20),
@@ -127,16 +131,16 @@ impl Scene {
     // checksum is the same derivation, of a master key: so it is read from a drive whose key is that passphrase.
     fn derived(&self) -> Vec<u8> {
         let mut image = vec![0; 40 * 1024];
-        assert_eq!(raw::format(&mut image, 2, 1, &self.last, &self.salt, COUNT, UUID), 0);
+        assert_eq!(raw::format(&mut image, self.profile, 1, &self.last, &self.salt, COUNT, UUID), 0);
         image[112..132].to_vec()
     }
 
     // The call through the binding.
     fn bound(&mut self, call: Call) -> u8 {
-        let Scene { image, key, first, last, salt, random, filler, buffer, opened } = self;
+        let Scene { profile, image, key, first, last, salt, random, filler, buffer, opened } = self;
         let units = UNITS as u64;
         match call {
-            Call::Format => raw::format(image, 2, STRIPES, key, salt, COUNT, UUID),
+            Call::Format => raw::format(image, *profile, STRIPES, key, salt, COUNT, UUID),
             Call::Add => raw::add(image, 2, key, last, salt, COUNT, random),
             Call::OpenSlot => raw::open_slot(image, 8, last, opened),
             Call::Open => raw::open(image, last, opened),
@@ -150,14 +154,14 @@ impl Scene {
     // The same call without the binding.
     #[rustfmt::skip]
     fn bare(&mut self, call: Call) -> u8 {
-        let Scene { image, key, first, last, salt, random, filler, buffer, opened } = self;
+        let Scene { profile, image, key, first, last, salt, random, filler, buffer, opened } = self;
         let (i, il, units) = (image.as_mut_ptr(), image.len(), UNITS as u64);
         let (k, kl, s, r, rl) = (key.as_ptr(), key.len(), salt.as_ptr(), random.as_ptr(), random.len());
         let (p, pl, f, fl) = (last.as_ptr(), last.len(), filler.as_ptr(), filler.len());
         // SAFETY: all pointers are into live, separate buffers of the scene, with their lengths.
         unsafe {
             match call {
-                Call::Format => mivrozh_format(i, il, 2, STRIPES, k, kl, s, COUNT, UUID.as_ptr(), UUID.len()),
+                Call::Format => mivrozh_format(i, il, *profile, STRIPES, k, kl, s, COUNT, UUID.as_ptr(), UUID.len()),
                 Call::Add => mivrozh_add(i, il, 2, k, kl, p, pl, s, COUNT, r, rl),
                 Call::OpenSlot => mivrozh_open_slot(i, il, 8, p, pl, opened.as_mut_ptr()),
                 Call::Open => mivrozh_open(i, il, p, pl, opened.as_mut_ptr()),
@@ -258,57 +262,64 @@ impl After {
     }
 }
 
+// Every call on drives of both hashes.
+fn each(calls: &[Call], test: impl Fn(u8, Call)) {
+    PROFILES.iter().for_each(|profile| calls.iter().for_each(|call| test(*profile, *call)));
+}
+
 #[test]
 fn the_calls_stay_within_the_wiped_stack() {
-    for call in CALLS {
-        let mut scene = Scene::new();
+    each(&CALLS, |profile, call| {
+        let mut scene = Scene::new(profile);
         let depth = stack_after(&mut || scene.bare(call)).depth();
-        println!("{call:?}: {depth} bytes of stack");
-        assert!(depth <= raw::MOST_STACK, "{call:?} uses {depth} bytes");
-    }
+        println!("profile {profile}, {call:?}: {depth} bytes of stack");
+        assert!(depth <= raw::MOST_STACK, "profile {profile}, {call:?} uses {depth} bytes");
+    });
 }
 
 #[test]
 fn no_key_stays_on_the_stack() {
-    for call in KEYED {
-        let mut scene = Scene::new();
+    each(&KEYED, |profile, call| {
+        let mut scene = Scene::new(profile);
         let (key, derived) = (scene.key.clone(), scene.derived());
         let bare = stack_after(&mut || scene.bare(call));
         let found = bare.pieces_of(&key) + bare.pieces_of(&derived);
-        println!("{call:?}: {found} pieces of keys where nothing is wiped");
-        assert!(found > 0, "{call:?}: this test would not see a key");
+        println!("profile {profile}, {call:?}: {found} pieces of keys where nothing is wiped");
+        assert!(found > 0, "profile {profile}, {call:?}: this test would not see a key");
 
-        let mut scene = Scene::new();
+        let mut scene = Scene::new(profile);
         let bound = stack_after(&mut || scene.bound(call));
-        assert_eq!(bound.pieces_of(&key), 0, "{call:?} leaves the master key");
-        assert_eq!(bound.pieces_of(&derived), 0, "{call:?} leaves the derived key");
-        assert_eq!(bound.pieces_of(&scene.last), 0, "{call:?} leaves the passphrase");
-    }
+        assert_eq!(bound.pieces_of(&key), 0, "profile {profile}, {call:?} leaves the master key");
+        assert_eq!(bound.pieces_of(&derived), 0, "profile {profile}, {call:?} leaves the derived key");
+        assert_eq!(bound.pieces_of(&scene.last), 0, "profile {profile}, {call:?} leaves the passphrase");
+    });
 }
 
 // The same of a Drive's method, which has the key in a buffer of its own.
 #[test]
 fn an_opened_drive_leaves_no_key_on_the_stack() {
-    let mut scene = Scene::new();
-    let (key, passphrase) = (scene.key.clone(), Secret::from(&scene.last[..]));
-    let mut found = None;
-    let after = stack_after(&mut || {
-        found = Drive::over(&mut scene.image).open(&passphrase).ok();
-        0
-    });
-    assert_eq!(found.expect("slot 8 opens").key.expose(), key);
-    assert_eq!(after.pieces_of(&key), 0);
-    assert_eq!(after.pieces_of(&scene.last), 0);
+    for profile in PROFILES {
+        let mut scene = Scene::new(profile);
+        let (key, passphrase) = (scene.key.clone(), Secret::from(&scene.last[..]));
+        let mut found = None;
+        let after = stack_after(&mut || {
+            found = Drive::over(&mut scene.image).open(&passphrase).ok();
+            0
+        });
+        assert_eq!(found.expect("slot 8 opens").key.expose(), key);
+        assert_eq!(after.pieces_of(&key), 0);
+        assert_eq!(after.pieces_of(&scene.last), 0);
+    }
 }
 
 // Below the frames of the binding itself, which hold pointers and lengths, the wiped stack has nothing but zeros.
 #[test]
 fn the_engines_frames_are_zeros() {
     const OF_THE_BINDING: usize = 2048;
-    for call in CALLS {
-        let mut scene = Scene::new();
+    each(&CALLS, |profile, call| {
+        let mut scene = Scene::new(profile);
         let bound = stack_after(&mut || scene.bound(call));
         let wiped = &bound.stack[bound.dead - raw::WIPED_STACK..bound.dead - OF_THE_BINDING];
-        assert!(wiped.iter().all(|&byte| byte == 0), "{call:?} leaves something");
-    }
+        assert!(wiped.iter().all(|&byte| byte == 0), "profile {profile}, {call:?} leaves something");
+    });
 }

@@ -1,6 +1,6 @@
 //! The eight calls on an image: what each refuses, what it answers and the image afterwards.
 
-use crate::header::{self, at, put, put_number, Header, Slot, DISABLED};
+use crate::header::{self, at, put, put_number, Header, Profile, Slot, DISABLED};
 use crate::slots::{empty, Derivations};
 use crate::xts::{self, Way, SECTOR};
 
@@ -132,8 +132,8 @@ impl Model {
         self.checks(image, call, false).first().copied().unwrap_or(0)
     }
 
-    /// Every number whose check fails, in order. A check that speaks of a slot or profile that is not there does not
-    /// fail.
+    /// Every number whose check fails, in order. A check that speaks of a slot, profile or hash that is not there does
+    /// not fail.
     pub fn failing(&mut self, image: &[u8], call: &Call) -> Vec<u8> {
         self.checks(image, call, true)
     }
@@ -149,6 +149,7 @@ impl Model {
             f.check(number, || refused);
         }
         let d = &mut self.derivations;
+        let hashed = h.hash().is_some();
         match call {
             Call::Format { .. } => unreachable!("judged above"),
             Call::Add { slot, key, passphrase, count, random, .. } => {
@@ -159,18 +160,18 @@ impl Model {
                 f.check(14, || bad_passphrase(passphrase));
                 f.check(10, || *count < header::SMALLEST_COUNT);
                 f.check(16, || record.is_some_and(|s| not_stripes(random, s.stripes.saturating_sub(1), h.key_bytes)));
-                f.check(17, || !d.has_checksum(&h, key));
+                f.check(17, || hashed && !d.has_checksum(&h, key));
             }
             Call::OpenSlot { slot, passphrase } => {
                 let record = h.slot(*slot);
                 f.check(13, || record.is_none());
                 f.check(14, || bad_passphrase(passphrase));
                 f.check(15, || record.is_some_and(|s| !s.enabled()));
-                f.check(17, || record.is_some_and(|s| d.candidate(image, &h, s, passphrase).is_none()));
+                f.check(17, || hashed && record.is_some_and(|s| d.candidate(image, &h, s, passphrase).is_none()));
             }
             Call::Open { passphrase } => {
                 f.check(14, || bad_passphrase(passphrase));
-                f.check(17, || search(d, image, &h, passphrase).is_none());
+                f.check(17, || hashed && search(d, image, &h, passphrase).is_none());
             }
             Call::Change { from, old, to, new, count, random, filler, .. } => {
                 let (first, second) = (h.slot(*from), h.slot(*to));
@@ -182,7 +183,7 @@ impl Model {
                     second.is_some_and(|s| not_stripes(random, s.stripes.saturating_sub(1), h.key_bytes))
                         || first.is_some_and(|s| not_stripes(filler, s.stripes, h.key_bytes))
                 });
-                f.check(17, || first.is_some_and(|s| d.candidate(image, &h, s, old).is_none()));
+                f.check(17, || hashed && first.is_some_and(|s| d.candidate(image, &h, s, old).is_none()));
             }
             Call::Revoke { slot, filler } => {
                 let record = h.slot(*slot);
@@ -197,7 +198,7 @@ impl Model {
                 f.check(9, || key.len() != h.key_bytes as usize);
                 f.check(19, || *first as u128 + *units as u128 > payload);
                 f.check(20, || buffer.len() as u128 != SECTOR as u128 * *units as u128);
-                f.check(17, || !d.has_checksum(&h, key));
+                f.check(17, || hashed && !d.has_checksum(&h, key));
             }
         }
         f.failing
@@ -221,8 +222,9 @@ impl Model {
         let payload = h.payload as u64;
         match call {
             Call::Format { profile, stripes, key, salt, count, uuid } => {
-                let checksum = d.derive(key, salt, *count, 20);
-                format(&mut out.image, *profile, *stripes, &checksum, salt, *count, uuid);
+                let profile = Profile::numbered(*profile).expect("check 7 passed");
+                let checksum = d.checksum(profile.hash, key, salt, *count);
+                format(&mut out.image, profile, *stripes, &checksum, salt, *count, uuid);
             }
             Call::Add { slot, key, passphrase, salt, count, random } => {
                 d.fill(&mut out.image, *slot, key, passphrase, salt, *count, random);
@@ -260,7 +262,7 @@ impl Model {
 }
 
 fn format_checks(f: &mut Findings, image_len: usize, profile: u8, stripes: u32, key: &[u8], count: u32, uuid: &[u8]) {
-    let length = header::key_length(profile);
+    let length = Profile::numbered(profile).map(|p| p.key_bytes);
     f.check(1, || header::bad_length(image_len));
     f.check(7, || length.is_none());
     f.check(8, || !(1..=header::MAX_STRIPES).contains(&stripes));
@@ -271,17 +273,24 @@ fn format_checks(f: &mut Findings, image_len: usize, profile: u8, stripes: u32, 
 }
 
 /// Zeroes everything before the payload, then writes the header.
-fn format(image: &mut [u8], profile: u8, stripes: u32, checksum: &[u8], salt: &[u8; 32], count: u32, uuid: &[u8]) {
-    let length = header::key_length(profile).expect("check 7 passed");
-    let (starts, payload) = header::layout(stripes, length);
+fn format(
+    image: &mut [u8],
+    profile: &Profile,
+    stripes: u32,
+    checksum: &[u8],
+    salt: &[u8; 32],
+    count: u32,
+    uuid: &[u8],
+) {
+    let (starts, payload) = header::layout(stripes, profile.key_bytes);
     image[..payload as usize * SECTOR].fill(0);
     put(image, at::MAGIC, &header::MAGIC);
     put(image, at::VERSION, &header::VERSION.to_be_bytes());
-    for (at, name) in at::NAMES.into_iter().zip(header::NAMES) {
+    for (at, name) in at::NAMES.into_iter().zip(profile.names()) {
         put(image, at, name.as_bytes());
     }
     put_number(image, at::PAYLOAD, payload as u32);
-    put_number(image, at::KEY_BYTES, length as u32);
+    put_number(image, at::KEY_BYTES, profile.key_bytes as u32);
     put(image, at::CHECKSUM, checksum);
     put(image, at::SALT, salt);
     put_number(image, at::COUNT, count);
@@ -318,10 +327,10 @@ mod tests {
         assert_eq!(numbers, [0, 1, 12]);
     }
 
-    #[test]
-    fn a_life() {
+    fn a_life(profile: &Profile) {
         let mut model = Model::default();
-        let (key, salt) = (vec![5; 32], [6; 32]);
+        let length = profile.key_bytes;
+        let (key, salt) = (vec![5; length], [6; 32]);
         let mut image = vec![9; 66 * SECTOR];
         let mut step = |call: Call| {
             let out = model.step(&image, &call);
@@ -329,17 +338,25 @@ mod tests {
             out
         };
         let (old, new) = (b"old".to_vec(), b"new".to_vec());
-        let uuid = vec![b'u'; 36];
-        step(Call::Format { profile: 1, stripes: 3, key: key.clone(), salt, count: 1000, uuid });
-        step(Call::Add { slot: 7, key: key.clone(), passphrase: old.clone(), salt, count: 1000, random: vec![1; 64] });
-        let (random, filler) = (vec![2; 64], vec![3; 96]);
+        let (number, uuid) = (profile.number, vec![b'u'; 36]);
+        step(Call::Format { profile: number, stripes: 3, key: key.clone(), salt, count: 1000, uuid });
+        let (random, passphrase) = (vec![1; 2 * length], old.clone());
+        step(Call::Add { slot: 7, key: key.clone(), passphrase, salt, count: 1000, random });
+        let (random, filler) = (vec![2; 2 * length], vec![3; 3 * length]);
         let change =
             Call::Change { from: 7, old: old.clone(), to: 2, new: new.clone(), salt, count: 1000, random, filler };
         assert_eq!(step(change).number, 0);
         assert_eq!(step(Call::Open { passphrase: old }).number, 17);
         let opened = step(Call::Open { passphrase: new }).opened;
-        assert_eq!((opened[0], opened[1], &opened[2..34]), (2, 32, &key[..]));
+        assert_eq!((opened[0], opened[1] as usize, &opened[2..2 + length]), (2, length, &key[..]));
         step(Call::Write { key: key.clone(), first: 0, units: 1, buffer: vec![4; 512] });
-        assert_eq!(step(Call::Read { key, first: 0, units: 1, buffer: vec![0; 512] }).buffer, vec![4; 512]);
+        let read = step(Call::Read { key, first: 0, units: 1, buffer: vec![0; 512] });
+        assert_eq!((read.number, read.buffer), (0, vec![4; 512]));
+        assert_eq!(Header::read(&image).profile().map(|p| p.number), Some(number));
+    }
+
+    #[test]
+    fn a_life_of_each_profile() {
+        header::PROFILES.iter().for_each(a_life);
     }
 }

@@ -1,6 +1,7 @@
 //! The header of LUKS 1.2.2, figures 1 to 3: its fields, the profiles, the layout that format makes, and the header
 //! check.
 
+use crate::hash::Hash;
 use crate::xts::SECTOR;
 
 pub const HEADER: usize = 592;
@@ -10,8 +11,33 @@ pub const ENABLED: u32 = 0x00ac71f3;
 pub const DISABLED: u32 = 0x0000dead;
 pub const MAX_STRIPES: u32 = 4000;
 pub const SMALLEST_COUNT: u32 = 1000;
-/// Cipher name, cipher mode and hash of both profiles.
-pub const NAMES: [&str; 3] = ["aes", "xts-plain64", "sha1"];
+/// A row of the table of profiles. In all of them the cipher is aes, the mode xts-plain64, and the smallest count
+/// `SMALLEST_COUNT`.
+#[derive(Debug)]
+pub struct Profile {
+    pub number: u8,
+    pub hash: Hash,
+    pub key_bytes: usize,
+}
+
+pub const PROFILES: [Profile; 4] = [
+    Profile { number: 1, hash: Hash::Sha1, key_bytes: 32 },
+    Profile { number: 2, hash: Hash::Sha1, key_bytes: 64 },
+    Profile { number: 3, hash: Hash::Sha256, key_bytes: 32 },
+    Profile { number: 4, hash: Hash::Sha256, key_bytes: 64 },
+];
+
+impl Profile {
+    /// The profile with this number.
+    pub fn numbered(number: u8) -> Option<&'static Profile> {
+        PROFILES.iter().find(|p| p.number == number)
+    }
+
+    /// Cipher name, cipher mode and hash.
+    pub fn names(&self) -> [&'static str; 3] {
+        ["aes", "xts-plain64", self.hash.name()]
+    }
+}
 
 /// Offsets of the fields.
 pub mod at {
@@ -33,15 +59,6 @@ pub mod at {
     pub const SLOT_SALT: usize = 8;
     pub const START: usize = 40;
     pub const STRIPES: usize = 44;
-}
-
-/// The key length of a profile's number.
-pub fn key_length(profile: u8) -> Option<usize> {
-    match profile {
-        1 => Some(32),
-        2 => Some(64),
-        _ => None,
-    }
 }
 
 #[derive(Clone, Debug, PartialEq)]
@@ -109,10 +126,15 @@ impl Header {
         (1..=8).contains(&k).then(|| &self.slots[k as usize - 1])
     }
 
-    /// Check 4 passes: some profile has these names and this key length.
-    fn has_profile(&self) -> bool {
-        let named = self.names.iter().zip(NAMES).all(|(field, name)| text(field) == Some(name.as_bytes()));
-        named && (self.key_bytes == 32 || self.key_bytes == 64)
+    /// The profile that has these names and this key length. Check 4 passes where there is one.
+    pub fn profile(&self) -> Option<&'static Profile> {
+        let named = |p: &Profile| self.names.iter().zip(p.names()).all(|(field, name)| is(field, name));
+        PROFILES.iter().find(|p| named(p) && self.key_bytes as usize == p.key_bytes)
+    }
+
+    /// The hash that the hash field names, whatever the other fields say.
+    pub fn hash(&self) -> Option<Hash> {
+        Hash::ALL.into_iter().find(|hash| is(&self.names[2], hash.name()))
     }
 
     /// Check 5 passes.
@@ -140,7 +162,7 @@ impl Header {
             (1, bad_length(image_len)),
             (2, self.magic != MAGIC),
             (3, self.version != VERSION),
-            (4, !self.has_profile()),
+            (4, self.profile().is_none()),
             (5, !self.has_fair_records()),
             (6, !self.fits(image_len)),
         ]
@@ -189,6 +211,11 @@ fn text(field: &[u8]) -> Option<&[u8]> {
     field.iter().position(|b| *b == 0).map(|end| &field[..end])
 }
 
+/// The field holds this text.
+fn is(field: &[u8], name: &str) -> bool {
+    text(field) == Some(name.as_bytes())
+}
+
 /// Where format puts the eight areas and the payload, in sectors.
 pub fn layout(stripes: u32, key_length: usize) -> ([u64; 8], u64) {
     let sectors = stripes as u64 * key_length as u64 / SECTOR as u64 + 1;
@@ -210,6 +237,23 @@ mod tests {
         assert_eq!(layout(4000, 32), ([8, 264, 520, 776, 1032, 1288, 1544, 1800], 2051));
         assert_eq!(layout(4000, 64), ([8, 512, 1016, 1520, 2024, 2528, 3032, 3536], 4037));
         assert_eq!([1, 15, 16].map(|n| layout(n, 32).1), [65, 65, 66]);
+    }
+
+    #[test]
+    fn profiles_by_number_and_by_header() {
+        let numbers = |p: &Profile| (p.number, p.names()[2], p.key_bytes);
+        let all = [1, 2, 3, 4].map(|n| numbers(Profile::numbered(n).expect("a profile")));
+        assert_eq!(all, [(1, "sha1", 32), (2, "sha1", 64), (3, "sha256", 32), (4, "sha256", 64)]);
+        assert!([0, 5, 255].iter().all(|n| Profile::numbered(*n).is_none()));
+        let mut image = [0; HEADER];
+        for (hash, key_bytes, number) in [("sha1", 64, Some(2)), ("sha256", 32, Some(3)), ("sha2", 32, None)] {
+            for (at, name) in at::NAMES.into_iter().zip(["aes", "xts-plain64", hash]) {
+                put(&mut image, at, &[0; 32]);
+                put(&mut image, at, name.as_bytes());
+            }
+            put_number(&mut image, at::KEY_BYTES, key_bytes);
+            assert_eq!(Header::read(&image).profile().map(|p| p.number), number);
+        }
     }
 
     #[test]

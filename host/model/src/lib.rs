@@ -5,9 +5,11 @@
 
 pub mod aes;
 pub mod calls;
+pub mod hash;
 pub mod header;
 pub mod kdf;
 pub mod sha1;
+pub mod sha256;
 pub mod slots;
 pub mod splitter;
 pub mod xts;

@@ -32,33 +32,13 @@ pub fn compress(value: [u32; 5], block: &[u8]) -> [u32; 5] {
     std::array::from_fn(|i| value[i].wrapping_add(worked[i]))
 }
 
-/// The digest of a text whose first `before` bytes, a multiple of 64, are already in `value`, and whose rest is `text`.
-pub fn resume(value: [u32; 5], before: usize, text: &[u8]) -> [u8; 20] {
-    let mut padded = text.to_vec();
-    padded.push(0x80);
-    while padded.len() % 64 != 56 {
-        padded.push(0);
-    }
-    padded.extend_from_slice(&(8 * (before + text.len()) as u64).to_be_bytes());
-    let last = padded.chunks_exact(64).fold(value, compress);
-    let mut digest = [0; 20];
-    for (bytes, word) in digest.chunks_exact_mut(4).zip(last) {
-        bytes.copy_from_slice(&word.to_be_bytes());
-    }
-    digest
-}
-
-pub fn digest(text: &[u8]) -> [u8; 20] {
-    resume(INITIAL, 0, text)
-}
-
 #[cfg(test)]
 mod tests {
-    use super::*;
+    use crate::hash::Hash;
     use crate::unhex;
 
     fn gives(text: &[u8], digits: &str) {
-        assert_eq!(digest(text).to_vec(), unhex(digits));
+        assert_eq!(Hash::Sha1.digest(text), unhex(digits));
     }
 
     #[test]

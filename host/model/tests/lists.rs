@@ -19,4 +19,5 @@ fn library_and_model_agree() {
 fn a_bad_option_is_refused() {
     assert!(!lists(&["--call", "5"]).0);
     assert!(!lists(&["--calls"]).0);
+    assert!(!lists(&["--profiles", "all"]).0);
 }

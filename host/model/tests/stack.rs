@@ -5,10 +5,10 @@ use mivrozh::raw;
 
 const STACK: usize = raw::WIPED_STACK + 16 * 1024;
 
-fn calls(image: &mut [u8], numbers: &mut [u8; 8]) {
+fn calls(profile: u8, image: &mut [u8], numbers: &mut [u8; 8]) {
     let (key, salt, stripes, filler) = ([5; 64], [6; 32], [7; 64], [8; 128]);
     let (mut opened, mut buffer) = ([0; 66], [0; 512]);
-    numbers[0] = raw::format(image, 2, 2, &key, &salt, 1000, &[b'u'; 36]);
+    numbers[0] = raw::format(image, profile, 2, &key, &salt, 1000, &[b'u'; 36]);
     numbers[1] = raw::add(image, 1, &key, b"old", &salt, 1000, &stripes);
     numbers[2] = raw::change(image, 1, b"old", 2, b"new", &salt, 1000, &stripes, &filler);
     numbers[3] = raw::open(image, b"new", &mut opened);
@@ -19,16 +19,19 @@ fn calls(image: &mut [u8], numbers: &mut [u8; 8]) {
     numbers[7] = raw::revoke(image, 3, &filler);
 }
 
+/// With the profiles of 64-byte keys, one of each hash.
 #[test]
 fn every_call_runs_in_little_more_stack_than_is_wiped() {
-    let (mut image, mut numbers) = (vec![0; 66 * 512], [255; 8]);
-    std::thread::scope(|scope| {
-        let thread = std::thread::Builder::new().stack_size(STACK);
-        thread
-            .spawn_scoped(scope, || calls(&mut image, &mut numbers))
-            .expect("a thread starts")
-            .join()
-            .expect("it ends");
-    });
-    assert_eq!(numbers, [0; 8]);
+    for profile in [2, 4] {
+        let (mut image, mut numbers) = (vec![0; 66 * 512], [255; 8]);
+        std::thread::scope(|scope| {
+            let thread = std::thread::Builder::new().stack_size(STACK);
+            thread
+                .spawn_scoped(scope, || calls(profile, &mut image, &mut numbers))
+                .expect("a thread starts")
+                .join()
+                .expect("it ends");
+        });
+        assert_eq!(numbers, [0; 8], "profile {profile}");
+    }
 }

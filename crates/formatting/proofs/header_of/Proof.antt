@@ -19,8 +19,11 @@ use Rattle.formatting.proofs.header_of.Tie as tie
 abbrev named : tie.After-put-numbers → tie.After-put-names
 named c = c .before .before .before .before
 
+abbrev hashed : tie.After-put-names → tie.After-hash-of
+hashed c = c .before .before .before .before .before .before
+
 abbrev found : tie.After-put-names → tie.After-profile-at
-found c = c .before .before .before .before .before .before
+found c = hashed c .before
 
 abbrev start : tie.After-profile-at → tie.Start
 start c = c .before .before .before
@@ -55,16 +58,18 @@ returns c =
     let m = named n in
     let d = m .before .before .before in
     let p = found m in
-    header-is (input (start p)) (p .profile-at .result) (p .profile-at .ensures) (name-widths p) (d .before .pbkdf2-sha1-arg .given .0) (start p .pre .4)
-    (d .pbkdf2-sha1 .last .0) _ _ _ (d .pbkdf2-sha1 .kept .0) (d .pbkdf2-sha1 .ensures) (m .put-names .ensures) (n .put-numbers .ensures) (s .put-slots .ensures)
+    header-is (input (start p)) (p .profile-at .result) (p .profile-at .ensures) (name-widths p) (d .before .pbkdf2-arg .given .0) (start p .pre .4)
+    (hashed m .hash-of .result) (hashed m .hash-of .ensures) (d .pbkdf2 .last .0) _ _ _ (d .pbkdf2 .kept .0) (d .pbkdf2 .ensures)
+    (m .put-names .ensures) (n .put-numbers .ensures) (s .put-slots .ensures)
 
 pub header-of-spec : {M : Type 1} → statement M
 header-of-spec =
     tie.close
     (tie.spec
     (λ profile-at-requires κs. search needs)
-    (λ slice-aggregate-pbkdf2-sha1. search needs)
-    (λ pbkdf2-sha1-requires κs. search needs)
+    (λ hash-of-requires κs. search needs)
+    (λ slice-aggregate-pbkdf2. search needs)
+    (λ pbkdf2-requires κs. search needs)
     (λ slice-aggregate-put-names. search needs)
     (λ put-names-requires κs. search needs)
     (λ slice-aggregate-put-numbers. search needs)

@@ -4,6 +4,7 @@ use native.Mathlib.Omega.{arith}
 use lib.ListN.{length, take}
 use lib.Seq.{length-take-le}
 use borrow.Author.Needs.{needs}
+use Rattle.hash.specs.Hash.{digestOf}
 use Rattle.xts.specs.Keys.{unitDecrypt}
 use Rattle.xts.proofs.KeysLaws.{unitDecrypt-is}
 use Rattle.keyslot.proofs.AreaLaws.{candidateOf-is}
@@ -34,7 +35,7 @@ returns c =
     let l : length (k .result) ≡ 64 = search needs in
     let e = length-take-le L (k .result) (omega arith) in
     let x = c .before .before .before .expand in
-    candidateOf-is L (a .n) (a .count) (a .passphrase .now) (a .salt .now) (a .area .now) _ (take L (k .result)) (unitDecrypt (x .result))
+    candidateOf-is (digestOf (a .hash)) L (a .n) (a .count) (a .passphrase .now) (a .salt .now) (a .area .now) _ (take L (k .result)) (unitDecrypt (x .result))
     (k .ensures) (unitDecrypt-is (x .result) (take L (k .result)) (omega (arith, e, s .pre .4)) (x .ensures)) (c .before .before .merge-units .ensures)
 
 pub candidate-spec : {M : Type 1} → statement M

@@ -5,6 +5,7 @@ use native.Mathlib.Omega.{arith}
 use lib.ListN.{length, take}
 use lib.Seq.{length-take-le}
 use borrow.Author.Needs.{needs}
+use Rattle.hash.specs.Hash.{digestOf}
 use Rattle.suite.proofs.SplitLaws.{last-stripe}
 use Rattle.keyslot.proofs.AreaLaws.{keyMaterial-is, whole-blocks}
 use Rattle.keyslot.proofs.fill.Statement.{statement}
@@ -40,7 +41,7 @@ returns c =
     let L = length (a .key .now) in
     let s = c .before .before .before .before .before .before .before .before .split-into in
     let k = c .before .before .before .before .before .slot-key in
-    keyMaterial-is L (a .n) (a .count) (a .key .now) (a .passphrase .now) (a .salt .now) (a .random .now) (s .last .0) _ (take L (k .result))
+    keyMaterial-is (digestOf (a .hash)) L (a .n) (a .count) (a .key .now) (a .passphrase .now) (a .salt .now) (a .random .now) (s .last .0) _ (take L (k .result))
     (s .ensures) (k .ensures) (c .before .before .encrypt-all .ensures)
 
 pub fill-spec : {M : Type 1} → statement M

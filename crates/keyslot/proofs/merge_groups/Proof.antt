@@ -9,7 +9,7 @@ use lib.ListN.{length, take, drop, length-replicate}
 use lib.Seq.{length-take-le}
 use Rattle.octets.specs.Splice.{part}
 use Rattle.octets.proofs.SpliceLaws.{length-part}
-use Rattle.sha1.specs.Sha1.{sha1}
+use Rattle.hash.specs.Hash.{digestOf}
 use Rattle.suite.specs.Split.{mergeFrom}
 use Rattle.suite.specs.Units.{inUnits}
 use Rattle.suite.proofs.SplitLaws.{last-stripe}
@@ -23,13 +23,13 @@ use Rattle.keyslot.proofs.merge_groups.Statement.{statement}
 use Rattle.keyslot.proofs.merge_groups.Tie as tie
 
 abbrev Inv-loop : tie.InvT-loop
-Inv-loop d₀ area n ks vs rounds per len b₀ at₀ left₀ d b at left =
+Inv-loop d₀ hash area n ks vs rounds per len b₀ at₀ left₀ d b at left =
     (at < len) × (at % 16 ≡ 0) × (1 ≤ left) × (left * length d₀ ≡ len - at) × (length d ≡ length d₀) × (length b ≡ 16384)
     × ((f : ℕ → List ℕ → List ℕ) → Under false rounds ks vs f
-    → mergeFrom (diffuse sha1) (length d₀) d (left - 1) (inUnits f (at / 512) (drop at area)) ≡ mergeFrom (diffuse sha1) (length d₀) d₀ (n - 1) (inUnits f 0 area))
+    → mergeFrom (diffuse (digestOf hash)) (length d₀) d (left - 1) (inUnits f (at / 512) (drop at area)) ≡ mergeFrom (diffuse (digestOf hash)) (length d₀) d₀ (n - 1) (inUnits f 0 area))
 
 abbrev μ-loop : tie.MeasureT-loop
-μ-loop d₀ area n ks vs rounds per len b₀ at₀ left₀ d b at left = len - at
+μ-loop d₀ hash area n ks vs rounds per len b₀ at₀ left₀ d b at left = len - at
 
 loop-holds : tie.Need-loop-holds Inv-loop μ-loop
 loop-holds c =
@@ -77,7 +77,7 @@ loop-again c =
       less-left L (p .result) (l .left) (p .ensures) (length (a .area .now) - l .at) h (l .inv .3) ∙ omega arith,
       search needs,
       search needs,
-      λ f g. merge-more (diffuse sha1) L f (l .at) (l .at / 512) (l .left) (l .d) (y .last .0) (a .area .now) _ (l .inv .4) (l .inv .6 f g) (p .result) _ h (p .ensures) (omega arith)
+      λ f g. merge-more (diffuse (digestOf (a .hash))) L f (l .at) (l .at / 512) (l .left) (l .d) (y .last .0) (a .area .now) _ (l .inv .4) (l .inv .6 f g) (p .result) _ h (p .ensures) (omega arith)
           (length-under false (a .rounds) (a .ks .now) (a .vs .now) f g (l .at / 512) x (omega (arith, k)) ∙ k)
           (y .ensures f g),
     )
@@ -108,8 +108,9 @@ returns c =
     let d = w .before .before .before .before .clear in
     let a = w .before .before .before .before .before .before .before .before .before .before .args in
     let e : length (d .last .0) ≡ length (a .d .now) = search needs in
-    λ f g. merge-is (diffuse sha1) (length (a .d .now)) (a .n) (d .last .0) _ (inUnits f 0 (a .area .now)) e (d .ensures)
-    (merge-end (diffuse sha1) (length (d .last .0)) f (l .at) (l .at / 512) (l .left) (l .d) _ (a .area .now) _ (l .inv .4) (l .inv .6 f g) (c .before .before .before .last-group .ensures f g))
+    let H = diffuse (digestOf (a .hash)) in
+    λ f g. merge-is H (length (a .d .now)) (a .n) (d .last .0) _ (inUnits f 0 (a .area .now)) e (d .ensures)
+    (merge-end H (length (d .last .0)) f (l .at) (l .at / 512) (l .left) (l .d) _ (a .area .now) _ (l .inv .4) (l .inv .6 f g) (c .before .before .before .last-group .ensures f g))
 
 pub merge-groups-spec : {M : Type 1} → statement M
 merge-groups-spec =
@@ -131,12 +132,12 @@ merge-groups-spec =
     (λ loop-less. search needs)
     loop-again
     (λ sub-k. search needs)
+    (λ sub-m. search needs)
     (λ array-borrow-prefix-b. search needs)
     slice-aggregate-last-group
     (λ sub-last-group. search needs)
     (λ part-last-group-start. search needs)
     (λ part-last-group-end. search needs)
-    (λ sub-last-group-2. search needs)
     last-group-requires
     (λ same-length. search needs)
     returns)

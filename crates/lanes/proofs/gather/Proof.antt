@@ -1,18 +1,23 @@
 -- `lanes::gather` meets its contract.
 use mathlib.Core.Path.{_≡_, sym}
+use native.Mathlib.Omega.{arith}
 use borrow.Author.Needs.{needs}
 use lib.ListN.{length}
-use Rattle.lanes.proofs.LanesLaws.{five}
+use Rattle.digest.proofs.ChainingLaws.{take-elements}
 use Rattle.lanes.proofs.gather.Statement.{statement}
 use Rattle.lanes.proofs.gather.Tie as tie
 
 returns : tie.Need-returns
 returns c =
-    let la : length (c .args .t1) ≡ 5 = search needs in
-    let lb : length (c .args .t2) ≡ 5 = search needs in
-    let lc : length (c .args .t3) ≡ 5 = search needs in
-    let ld : length (c .args .t4) ≡ 5 = search needs in
-    (sym (five 0 (c .args .t1) la), sym (five 0 (c .args .t2) lb), sym (five 0 (c .args .t3) lc), sym (five 0 (c .args .t4) ld))
+    let la : length (c .args .t1) ≡ 8 = search needs in
+    let lb : length (c .args .t2) ≡ 8 = search needs in
+    let lc : length (c .args .t3) ≡ 8 = search needs in
+    let ld : length (c .args .t4) ≡ 8 = search needs in (
+      sym (take-elements 0 5 (c .args .t1) (omega (arith, la))),
+      sym (take-elements 0 5 (c .args .t2) (omega (arith, lb))),
+      sym (take-elements 0 5 (c .args .t3) (omega (arith, lc))),
+      sym (take-elements 0 5 (c .args .t4) (omega (arith, ld))),
+    )
 
 pub gather-spec : {M : Type 1} → statement M
 gather-spec =

@@ -6,7 +6,8 @@ use native.Mathlib.Nat.{add-zero}
 use native.Mathlib.Omega.{arith}
 use borrow.Author.Needs.{needs}
 use lib.ListN.{length, getD, set, length-set}
-use Rattle.sha1.specs.Turns.{turns}
+use Rattle.digest.specs.Turns.{turns}
+use Rattle.sha1.specs.Turns.{turn}
 use Rattle.lanes.specs.Lanes.{Each, lane, taps, joined}
 use Rattle.lanes.proofs.LanesLaws.{turn-lane, halved, halved-lane, joined-lane}
 use Rattle.lanes.proofs.twenty.Statement.{statement}
@@ -14,7 +15,7 @@ use Rattle.lanes.proofs.twenty.Tie as tie
 
 abbrev Inv-loop : tie.InvT-loop
 Inv-loop w₀ q c v₀ y₀ j₀ w v y j =
-    (j ≤ 20) × (length w ≡ length w₀) × (length v ≡ 6) × Each (λ i. (lane i w, joined (lane i v)) ≡ turns (lane i w₀, joined (lane i v₀)) (20 * q) j)
+    (j ≤ 20) × (length w ≡ length w₀) × (length v ≡ 6) × Each (λ i. (lane i w, joined (lane i v)) ≡ turns turn (lane i w₀, joined (lane i v₀)) (20 * q) j)
     × Each (λ i. getD y i 0 ≡ taps (lane i w) (16 + (20 * q + j)))
 
 abbrev μ-loop : tie.MeasureT-loop
@@ -61,11 +62,11 @@ returns c =
     let a = at .before .before .before .before .before .before .before .before .before .args in
     let ls : length (a .t2) ≡ 5 = search needs in
     let e : l .j ≡ 20 = omega arith in
-    let r : (i : ℕ) → i < 4 → (lane i (l .w), joined (lane i (l .v))) ≡ turns (lane i (a .w .now), joined (lane i (halved (a .t2)))) (20 * a .q) 20 = λ i h. rw e at (l .inv .3 i h) in (
+    let r : (i : ℕ) → i < 4 → (lane i (l .w), joined (lane i (l .v))) ≡ turns turn (lane i (a .w .now), joined (lane i (halved (a .t2)))) (20 * a .q) 20 = λ i h. rw e at (l .inv .3 i h) in (
       l .inv .1,
       λ i h.
           ap (λ (x : List ℕ). (lane i (l .w), x)) (joined-lane i (l .v) (b .result) (b .ensures i h)) ∙ r i h
-          ∙ ap (λ (x : List ℕ). turns (lane i (a .w .now), x) (20 * a .q) 20) (halved-lane i (a .t2) h ls),
+          ∙ ap (λ (x : List ℕ). turns turn (lane i (a .w .now), x) (20 * a .q) 20) (halved-lane i (a .t2) h ls),
     )
 
 pub twenty-spec : {M : Type 1} → statement M

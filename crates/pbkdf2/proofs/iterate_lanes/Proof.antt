@@ -5,6 +5,7 @@ use Prim.Native.Nat.{ℕ, _-_, _≤_}
 use native.Mathlib.Omega.{arith}
 use borrow.Author.Needs.{needs}
 use lib.ListN.{length}
+use Rattle.sha1.specs.Sha1.{compression}
 use Rattle.lanes.specs.Lanes.{Each, lane}
 use Rattle.pbkdf2.specs.Pbkdf2.{folded}
 use Rattle.pbkdf2.specs.Words.{prfWords}
@@ -14,7 +15,7 @@ use Rattle.pbkdf2.proofs.iterate_lanes.Tie as tie
 
 abbrev Inv-loop : tie.InvT-loop
 Inv-loop count inners outers w₀ u₀ t₀ j₀ w u t j =
-    (j ≤ count) × (length w ≡ 96) × Each (λ i. Values (prfWords (lane i inners) (lane i outers)) (lane i u₀) j (lane i u) (lane i t))
+    (j ≤ count) × (length w ≡ 96) × Each (λ i. Values (prfWords compression (lane i inners) (lane i outers)) (lane i u₀) j (lane i u) (lane i t))
 
 abbrev μ-loop : tie.MeasureT-loop
 μ-loop count inners outers w₀ u₀ t₀ j₀ w u t j = count - j
@@ -36,8 +37,8 @@ returns c i h =
     let q = at .before .broadcast2 in
     let a = at .before .before .before .args in
     let e : l .j ≡ a .count = omega arith in
-    let r : lane i (l .t) ≡ folded (prfWords (lane i (p .result)) (lane i (q .result))) (lane i (a .first)) (a .count - 1) = rw e at (l .inv .2 i h .sum) in
-    r ∙ ap₂ (λ (x y : List ℕ). folded (prfWords x y) (lane i (a .first)) (a .count - 1)) (p .ensures i h) (q .ensures i h)
+    let r : lane i (l .t) ≡ folded (prfWords compression (lane i (p .result)) (lane i (q .result))) (lane i (a .first)) (a .count - 1) = rw e at (l .inv .2 i h .sum) in
+    r ∙ ap₂ (λ (x y : List ℕ). folded (prfWords compression x y) (lane i (a .first)) (a .count - 1)) (p .ensures i h) (q .ensures i h)
 
 pub iterate-lanes-spec : {M : Type 1} → statement M
 iterate-lanes-spec =

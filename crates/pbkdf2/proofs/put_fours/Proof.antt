@@ -3,8 +3,9 @@ use mathlib.Core.Path.{_≡_, refl, sym, _∙_}
 use Prim.Native.Nat.{_+_, _-_, _*_, _≤_}
 use native.Mathlib.Omega.{arith}
 use borrow.Author.Needs.{needs}
-use lib.ListN.{length}
+use lib.ListN.{length, take}
 use lib.Seq.{take-nil}
+use Rattle.sha1.specs.Sha1.{compression}
 use Rattle.pbkdf2.specs.Words.{firstBlocks, Holds}
 use Rattle.pbkdf2.proofs.Pbkdf2Laws.{blocks-more}
 use Rattle.pbkdf2.proofs.FoursLaws.{four-more}
@@ -13,7 +14,7 @@ use Rattle.pbkdf2.proofs.put_fours.Tie as tie
 
 abbrev Inv-loop : tie.InvT-loop
 Inv-loop out₀ inner outer salt count groups g₀ out g =
-    (g ≤ groups) × (length out ≡ length out₀) × Holds inner outer salt count (4 * g) out
+    (g ≤ groups) × (length out ≡ length out₀) × Holds compression (take 5 inner) (take 5 outer) salt count (4 * g) out
 
 abbrev μ-loop : tie.MeasureT-loop
 μ-loop out₀ inner outer salt count groups g₀ out g = groups - g
@@ -34,8 +35,8 @@ loop-again c =
       omega arith,
       q .kept .0 ∙ l .inv .1,
       rw m
-          (blocks-more 20 (firstBlocks (a .inner) (a .outer) (a .salt .now) (a .count)) (l .out) (q .last .0) (t .result) (4 * l .g) 4 lt (omega arith)
-          (four-more (a .inner) (a .outer) (a .salt .now) (a .count) (4 * l .g) (t .result) (t .ensures)) (q .ensures) (l .inv .2)),
+          (blocks-more 20 (firstBlocks compression (take 5 (a .inner)) (take 5 (a .outer)) (a .salt .now) (a .count)) (l .out) (q .last .0) (t .result) (4 * l .g) 4 lt (omega arith)
+          (four-more (take 5 (a .inner)) (take 5 (a .outer)) (a .salt .now) (a .count) (4 * l .g) (t .result) (t .ensures)) (q .ensures) (l .inv .2)),
     )
 
 returns : tie.Need-returns Inv-loop μ-loop

@@ -6,7 +6,7 @@ use lib.ListN.{length, drop}
 use borrow.Author.Needs.{needs}
 use Rattle.octets.specs.Octets.{zeros}
 use Rattle.rules.specs.Profiles.{known}
-use Rattle.profiles.specs.Rows.{aesXtsRow, rows}
+use Rattle.profiles.specs.Rows.{nameOf, hashOf, aesXtsRow, rows}
 use Rattle.profiles.proofs.RowLaws.{number-found, number-next, number-none}
 use Rattle.profiles.proofs.is_known.Statement.{statement}
 use Rattle.profiles.proofs.is_known.Tie as tie
@@ -22,7 +22,7 @@ unfolding rows
 loop-holds c = (omega arith, refl)
 
 returns : tie.Need-returns Inv-loop μ-loop
-unfolding zeros rows aesXtsRow
+unfolding zeros nameOf hashOf aesXtsRow rows
 returns c =
     let l = c .before .before .before .before .loop in
     let n = c .before .before .before .before .before .args .number in
@@ -33,7 +33,7 @@ unfolding rows
 loop-less c = search needs
 
 loop-again : tie.Need-loop-again Inv-loop μ-loop
-unfolding zeros rows aesXtsRow
+unfolding zeros nameOf hashOf aesXtsRow rows
 loop-again c =
     let l = c .before .before .before .before .loop in
     let n = c .before .before .before .before .before .args .number in

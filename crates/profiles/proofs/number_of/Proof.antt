@@ -8,14 +8,14 @@ use borrow.Author.Needs.{needs}
 use Rattle.octets.specs.Octets.{zeros}
 use Rattle.rules.specs.Checks.{every}
 use Rattle.rules.specs.Profiles.{numberOf}
-use Rattle.profiles.specs.Rows.{aesXtsRow, rows}
+use Rattle.profiles.specs.Rows.{nameOf, hashOf, aesXtsRow, rows}
 use Rattle.profiles.proofs.RowLaws.{namesOk, header-found, header-next, header-none}
 use Rattle.profiles.proofs.number_of.Statement.{statement}
 use Rattle.profiles.proofs.number_of.Tie as tie
 
 -- the test of the table's names
 names-ok : every namesOk rows ≡ true
-unfolding every rows aesXtsRow
+unfolding every nameOf hashOf aesXtsRow rows
 names-ok = refl
 
 abbrev Inv-loop : tie.InvT-loop
@@ -30,7 +30,7 @@ unfolding rows
 loop-holds c = (omega arith, refl)
 
 returns : tie.Need-returns Inv-loop μ-loop
-unfolding zeros rows aesXtsRow
+unfolding zeros nameOf hashOf aesXtsRow rows
 returns c =
     let a = c .before .before .before .before .before .args in
     let l = c .before .before .before .before .loop in
@@ -42,7 +42,7 @@ unfolding rows
 loop-less c = search needs
 
 loop-again : tie.Need-loop-again Inv-loop μ-loop
-unfolding zeros rows aesXtsRow
+unfolding zeros nameOf hashOf aesXtsRow rows
 loop-again c =
     let a = c .before .before .before .before .before .args in
     let l = c .before .before .before .before .loop in (

@@ -8,7 +8,7 @@ use borrow.Author.Needs.{needs}
 use Rattle.octets.specs.Octets.{zeros}
 use Rattle.octets.proofs.BoolLaws.{no}
 use Rattle.rules.specs.Profiles.{profileAt, known}
-use Rattle.profiles.specs.Rows.{aesXtsRow, rows}
+use Rattle.profiles.specs.Rows.{nameOf, hashOf, aesXtsRow, rows}
 use Rattle.profiles.proofs.RowLaws.{number-next, number-none, row-found, row-next}
 use Rattle.profiles.proofs.profile_at.Statement.{statement}
 use Rattle.profiles.proofs.profile_at.Tie as tie
@@ -25,7 +25,7 @@ unfolding rows
 loop-holds c = (omega arith, c .pre, refl)
 
 returns : tie.Need-returns Inv-loop μ-loop
-unfolding zeros rows aesXtsRow
+unfolding zeros nameOf hashOf aesXtsRow rows
 returns c =
     let l = c .before .before .before .before .loop in
     let n = c .before .before .before .before .before .args .number in
@@ -36,7 +36,7 @@ unfolding rows
 loop-less c = search needs
 
 loop-again : tie.Need-loop-again Inv-loop μ-loop
-unfolding zeros rows aesXtsRow
+unfolding zeros nameOf hashOf aesXtsRow rows
 loop-again c =
     let l = c .before .before .before .before .loop in
     let n = c .before .before .before .before .before .args .number in (

@@ -36,10 +36,13 @@ random-length : (s : tie.Start)
 unfolding randomOk
 random-length s = eqb-true _ _ (s .pre .5)
 
--- ---- where the slot's record has been read: the area's room
+-- ---- where the slot's record has been read: the hash, and the area's room
+
+abbrev hashed : tie.After-slot-of → tie.After-hash-in
+hashed c = c .before .before
 
 abbrev start : tie.After-slot-of → tie.Start
-start c = c .before .before .before .before .before .before
+start c = hashed c .before .before .before .before .before .before
 
 abbrev bytes : tie.After-slot-of → ℕ
 bytes c = c .slot-of .result .stripes * length (start c .args .key .now)
@@ -71,8 +74,11 @@ lent-back c =
 
 -- ---- needs
 
+hash-in-requires : tie.Need-hash-in-requires
+hash-in-requires c κs = good (c .before .before .before .before .before) .size
+
 slot-of-requires : tie.Need-slot-of-requires
-slot-of-requires c κs = let s = c .before .before .before .before .before in (good s .size, s .pre .1)
+slot-of-requires c κs = let s = c .before .before .before .before .before .before .before in (good s .size, s .pre .1)
 
 mul-end : tie.Need-mul-end
 mul-end c = omega (arith, small (c .before .before))
@@ -123,8 +129,8 @@ returns c =
     let s = start p in
     let a = s .args in
     let r = p .slot-of in
-    let e = material-is (a .image .now) (a .slot) (r .result .stripes) (length (a .key .now)) (a .count) (a .key .now) (a .passphrase .now) (a .salt .now) (a .random .now)
-    (f .fill .last .0) (r .ensures .stripes-is) (key-length s) (f .fill .ensures) in
+    let e = material-is (a .image .now) (hashed p .hash-in .result) (hashed p .hash-in .ensures) (a .slot) (r .result .stripes) (length (a .key .now)) (a .count)
+    (a .key .now) (a .passphrase .now) (a .salt .now) (a .random .now) (f .fill .last .0) (r .ensures .stripes-is) (key-length s) (f .fill .ensures) in
     let w = slot-written (a .image .now) (a .slot) (r .result .start .0) (r .ensures .start-is) (f .fill .last .0) _ _ _ (lent-back f) (h .put-head .ensures .0) in
     (w ∙ ap (λ (x : List ℕ). written (slotWrites (factsIn (a .image .now)) (a .slot) x (recordHead enabled (a .count) (a .salt .now))) (a .image .now)) e, h .put-head .ensures .1)
 
@@ -132,6 +138,7 @@ pub enable-slot-spec : {M : Type 1} → statement M
 enable-slot-spec =
     tie.close
     (tie.spec
+    hash-in-requires
     slot-of-requires
     (λ cast-at. search needs)
     (λ mul-at. search needs)

@@ -13,9 +13,12 @@ use Rattle.slots.proofs.AreaLaws.{area-small, area-fits, some-stripes, 
 use Rattle.slots.proofs.slot_candidate.Statement.{statement}
 use Rattle.slots.proofs.slot_candidate.Tie as tie
 
--- where the slot's record has been read: the call, what its header assures, and the area's room
+-- where the slot's record has been read: the hash, the call, what its header assures, and the area's room
+abbrev hashed : tie.After-slot-of → tie.After-hash-in
+hashed c = c .before
+
 abbrev start : tie.After-slot-of → tie.Start
-start c = c .before .before .before .before
+start c = hashed c .before .before .before .before
 
 good : (s : tie.Start) → Sound (s .args .image .now)
 good s = sound (s .args .image .now) (s .pre .0)
@@ -33,8 +36,11 @@ room c =
     let s = start c in
     area-fits (s .args .image .now) (s .pre .0) (s .args .slot) (s .pre .1) (c .slot-of .result) (c .slot-of .ensures) (length (s .args .d .now)) (s .pre .3)
 
+hash-in-requires : tie.Need-hash-in-requires
+hash-in-requires c κs = good (c .before .before .before) .size
+
 slot-of-requires : tie.Need-slot-of-requires
-slot-of-requires c κs = let s = c .before .before .before in (good s .size, s .pre .1)
+slot-of-requires c κs = let s = c .before .before .before .before in (good s .size, s .pre .1)
 
 mul-end : tie.Need-mul-end
 mul-end c = omega (arith, small (c .before .before))
@@ -75,13 +81,14 @@ returns c =
     let m = s .args .image .now in
     let r = p .slot-of in
     let L = length (s .args .d .now) in
-    candidate-is m (s .pre .0) (s .args .slot) (s .pre .1) (r .result) (r .ensures) L (s .pre .3) (s .args .passphrase .now) _ _
-    (area-is m (s .pre .0) (s .args .slot) (s .pre .1) (r .result) (r .ensures) L (s .pre .3)) (d .candidate .ensures)
+    candidate-is m (s .pre .0) (s .args .slot) (s .pre .1) (r .result) (r .ensures) L (s .pre .3) (hashed p .hash-in .result) (hashed p .hash-in .ensures)
+    (s .args .passphrase .now) _ _ (area-is m (s .pre .0) (s .args .slot) (s .pre .1) (r .result) (r .ensures) L (s .pre .3)) (d .candidate .ensures)
 
 pub slot-candidate-spec : {M : Type 1} → statement M
 slot-candidate-spec =
     tie.close
     (tie.spec
+    hash-in-requires
     slot-of-requires
     (λ cast-n. search needs)
     (λ cast-at. search needs)

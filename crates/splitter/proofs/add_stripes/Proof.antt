@@ -6,7 +6,7 @@ use native.Mathlib.Omega.{arith}
 use lib.ListN.{length, take, drop}
 use borrow.Author.Needs.{needs}
 use Rattle.octets.specs.Octets.{xors}
-use Rattle.sha1.specs.Sha1.{sha1}
+use Rattle.hash.specs.Hash.{digestOf}
 use Rattle.suite.specs.Split.{running}
 use Rattle.suite.proofs.SplitLaws.{running-step, running-end, stripe-inside}
 use Rattle.splitter.specs.Diffuse.{diffuse}
@@ -14,12 +14,12 @@ use Rattle.splitter.proofs.add_stripes.Statement.{statement}
 use Rattle.splitter.proofs.add_stripes.Tie as tie
 
 abbrev Inv-loop : tie.InvT-loop
-Inv-loop d₀ stripes count l m₀ at₀ d m at =
+Inv-loop d₀ hash stripes count l m₀ at₀ d m at =
     (m ≤ count) × (at ≡ m * length d₀) × (length d ≡ length d₀)
-    × (running (diffuse sha1) (length d₀) d (count - m) (drop at stripes) ≡ running (diffuse sha1) (length d₀) d₀ count stripes)
+    × (running (diffuse (digestOf hash)) (length d₀) d (count - m) (drop at stripes) ≡ running (diffuse (digestOf hash)) (length d₀) d₀ count stripes)
 
 abbrev μ-loop : tie.MeasureT-loop
-μ-loop d₀ stripes count l m₀ at₀ d m at = count - m
+μ-loop d₀ hash stripes count l m₀ at₀ d m at = count - m
 
 loop-holds : tie.Need-loop-holds Inv-loop μ-loop
 loop-holds c = (omega arith, omega arith, refl, rw sub-zero)
@@ -41,13 +41,14 @@ loop-again c =
     let a = c .before .before .before .before .before .before .before .before .before .args in
     let l = c .before .before .before .before .before .before .loop in
     let L = length (a .d .now) in
+    let H = diffuse (digestOf (a .hash)) in
     let k : l .at + L - l .at ≡ L = omega arith in
     let y = c .before .before .add-stripe in (
       omega arith,
       omega arith,
       search needs,
-      running-step (diffuse sha1) L (l .m) (a .count) (l .at) (l .d) (y .last .0) (a .stripes .now) (running (diffuse sha1) L (a .d .now) (a .count) (a .stripes .now)) (omega arith)
-          (y .ensures ∙ ap (λ (n : ℕ). diffuse sha1 (xors (l .d) (take n (drop (l .at) (a .stripes .now))))) k) (l .inv .3),
+      running-step H L (l .m) (a .count) (l .at) (l .d) (y .last .0) (a .stripes .now) (running H L (a .d .now) (a .count) (a .stripes .now)) (omega arith)
+          (y .ensures ∙ ap (λ (n : ℕ). H (xors (l .d) (take n (drop (l .at) (a .stripes .now))))) k) (l .inv .3),
     )
 
 returns : tie.Need-returns Inv-loop μ-loop
@@ -55,7 +56,8 @@ returns c =
     let a = c .before .before .before .before .args in
     let l = c .before .loop in
     let L = length (a .d .now) in
-    running-end (diffuse sha1) L (l .m) (a .count) (l .d) (drop (l .at) (a .stripes .now)) (running (diffuse sha1) L (a .d .now) (a .count) (a .stripes .now)) (omega arith) (l .inv .3)
+    let H = diffuse (digestOf (a .hash)) in
+    running-end H L (l .m) (a .count) (l .d) (drop (l .at) (a .stripes .now)) (running H L (a .d .now) (a .count) (a .stripes .now)) (omega arith) (l .inv .3)
 
 pub add-stripes-spec : {M : Type 1} → statement M
 add-stripes-spec =

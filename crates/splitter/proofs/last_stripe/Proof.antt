@@ -5,7 +5,7 @@ use native.Mathlib.Omega.{arith}
 use lib.ListN.{length}
 use borrow.Author.Needs.{needs}
 use Rattle.octets.specs.Octets.{zeros}
-use Rattle.sha1.specs.Sha1.{sha1}
+use Rattle.hash.specs.Hash.{digestOf}
 use Rattle.splitter.specs.Diffuse.{diffuse}
 use Rattle.splitter.proofs.StripesLaws.{last-stripe-is}
 use Rattle.splitter.proofs.last_stripe.Statement.{statement}
@@ -23,7 +23,7 @@ returns c =
     let d = c .before .before .before .before .before .before .before .before .before .before .clear in
     let k : length (a .d .now) ≡ length (a .key .now) = c .before .before .before .before .before .before .before .before .before .before .before .before .before .before .before .pre .0 in
     let l : length (d .last .0) ≡ length (a .d .now) = search needs in
-    last-stripe-is (diffuse sha1) (length (a .key .now)) (a .m) (d .last .0) (c .before .before .before .before .before .before .add-stripes .last .0) _ (a .key .now) (a .random .now)
+    last-stripe-is (diffuse (digestOf (a .hash))) (length (a .key .now)) (a .m) (d .last .0) (c .before .before .before .before .before .before .add-stripes .last .0) _ (a .key .now) (a .random .now)
     (l ∙ k) (d .ensures ∙ ap zeros k) (c .before .before .before .before .before .before .add-stripes .ensures) (c .before .before .xor-into .ensures)
 
 pub last-stripe-spec : {M : Type 1} → statement M

@@ -5,7 +5,7 @@ use native.Mathlib.Omega.{arith}
 use lib.ListN.{length}
 use lib.Seq.{length-take-le}
 use borrow.Author.Needs.{needs}
-use Rattle.sha1.specs.Sha1.{sha1}
+use Rattle.hash.specs.Hash.{digestOf}
 use Rattle.splitter.specs.Diffuse.{diffuse}
 use Rattle.splitter.proofs.StripesLaws.{mergeFrom-is}
 use Rattle.splitter.proofs.merge_from.Statement.{statement}
@@ -24,10 +24,11 @@ add-stripes-requires c κs =
 
 returns : tie.Need-returns
 returns c =
-    let a = c .before .before .before .before .before .before .before .before .before .before .before .before .args in
+    let added = c .before .before .before .before .before .before .before in
+    let a = added .before .before .before .before .before .args in
     let L = length (a .d .now) in
-    mergeFrom-is (diffuse sha1) L (a .m) (length (a .stripes .now) - L) (a .d .now) (c .before .before .before .before .before .before .before .add-stripes .last .0) _ (a .stripes .now) (omega arith)
-    (c .before .before .before .before .before .before .before .add-stripes .ensures) (c .before .before .xor-into .ensures)
+    mergeFrom-is (diffuse (digestOf (a .hash))) L (a .m) (length (a .stripes .now) - L) (a .d .now) (added .add-stripes .last .0) _ (a .stripes .now) (omega arith)
+    (added .add-stripes .ensures) (c .before .before .xor-into .ensures)
 
 pub merge-from-spec : {M : Type 1} → statement M
 merge-from-spec =

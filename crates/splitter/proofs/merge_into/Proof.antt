@@ -4,7 +4,7 @@ use Prim.Native.Nat.{ℕ, _-_, _*_}
 use native.Mathlib.Omega.{arith}
 use lib.ListN.{length}
 use borrow.Author.Needs.{needs}
-use Rattle.sha1.specs.Sha1.{sha1}
+use Rattle.hash.specs.Hash.{digestOf}
 use Rattle.splitter.specs.Diffuse.{diffuse}
 use Rattle.splitter.proofs.StripesLaws.{merge-is}
 use Rattle.splitter.proofs.merge_into.Statement.{statement}
@@ -21,7 +21,7 @@ returns c =
     let a = c .before .before .before .before .before .before .before .before .before .before .args in
     let d = c .before .before .before .before .before .before .clear in
     let l : length (d .last .0) ≡ length (a .d .now) = search needs in
-    merge-is (diffuse sha1) (length (a .d .now)) (a .n) (d .last .0) _ (a .stripes .now) l (d .ensures) (c .before .before .merge-from .ensures)
+    merge-is (diffuse (digestOf (a .hash))) (length (a .d .now)) (a .n) (d .last .0) _ (a .stripes .now) l (d .ensures) (c .before .before .merge-from .ensures)
 
 pub merge-into-spec : {M : Type 1} → statement M
 merge-into-spec =

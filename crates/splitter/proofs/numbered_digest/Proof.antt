@@ -7,23 +7,23 @@ use lib.Seq.{length-take-le}
 use borrow.Author.Needs.{needs}
 use Rattle.octets.specs.Octets.{be32}
 use Rattle.octets.proofs.OctetsLaws.{length-bigEndian}
-use Rattle.sha1.specs.Sha1.{hash, sha1}
+use Rattle.hash.specs.Hash.{digestOf}
 use Rattle.splitter.proofs.DiffuseLaws.{put-two}
 use Rattle.splitter.proofs.numbered_digest.Statement.{statement}
 use Rattle.splitter.proofs.numbered_digest.Tie as tie
 
-slice-aggregate-sha1 : tie.Need-slice-aggregate-sha1
-slice-aggregate-sha1 c =
+slice-aggregate-digest : tie.Need-slice-aggregate-digest
+slice-aggregate-digest c =
     let P = c .before .before .before .before .before .before .before .before .before .before .args .piece .now in
     let b = c .before .before .copy-into2 .last .0 in
-    let l : length b ≡ 24 = search needs in
+    let l : length b ≡ 36 = search needs in
     sym (length-take-le (4 + length P) b (omega arith))
 
-sha1-requires : tie.Need-sha1-requires
-sha1-requires c κs =
+digest-requires : tie.Need-digest-requires
+digest-requires c κs =
     let P = c .before .before .before .before .before .before .before .before .before .before .args .piece .now in
     let b = c .before .before .copy-into2 .last .0 in
-    let l : length b ≡ 24 = search needs in
+    let l : length b ≡ 36 = search needs in
     let m = length-take-le (4 + length P) b (omega arith) in
     omega (arith, m)
 
@@ -33,8 +33,8 @@ returns c =
     let first = second .before .before .before in
     let made = first .before .before .before in
     let a = made .before .before .args in
-    c .sha1 .ensures
-    ∙ ap hash (put-two _ (be32 (a .number)) _ (a .piece .now) (first .copy-into .last .0) (second .copy-into2 .last .0) 4 (length-bigEndian 4 (a .number))
+    c .digest .ensures
+    ∙ ap (digestOf (a .hash) .hash) (put-two _ (be32 (a .number)) _ (a .piece .now) (first .copy-into .last .0) (second .copy-into2 .last .0) 4 (length-bigEndian 4 (a .number))
     (made .be32 .ensures) (first .copy-into .ensures) (second .copy-into2 .ensures))
 
 pub numbered-digest-spec : {M : Type 1} → statement M
@@ -49,6 +49,6 @@ numbered-digest-spec =
     (λ copy-into-requires-2 κs. search needs)
     (λ add-e. search needs)
     (λ array-share-prefix-b. search needs)
-    slice-aggregate-sha1
-    sha1-requires
+    slice-aggregate-digest
+    digest-requires
     returns)

@@ -4,7 +4,7 @@ use Prim.Native.Nat.{_-_}
 use native.Mathlib.Omega.{arith}
 use lib.ListN.{length}
 use borrow.Author.Needs.{needs}
-use Rattle.sha1.specs.Sha1.{sha1}
+use Rattle.hash.specs.Hash.{digestOf}
 use Rattle.splitter.specs.Diffuse.{diffuse}
 use Rattle.splitter.proofs.StripesLaws.{split-is}
 use Rattle.splitter.proofs.split_into.Statement.{statement}
@@ -16,7 +16,7 @@ returns c =
     let b = c .before .before .before .before .before .before .copy-into .last .0 in
     let y = c .before .before .last-stripe in
     let l : length b ≡ length (a .area .now) = search needs in
-    split-is (diffuse sha1) (length (a .key .now)) (a .n) (length b - length (a .random .now)) (a .area .now) b _ (y .last .0) (a .random .now) (a .key .now)
+    split-is (diffuse (digestOf (a .hash))) (length (a .key .now)) (a .n) (length b - length (a .random .now)) (a .area .now) b _ (y .last .0) (a .random .now) (a .key .now)
     (omega arith) (c .before .before .before .before .before .before .copy-into .ensures) (y .ensures) refl
 
 pub split-into-spec : {M : Type 1} → statement M

@@ -4,6 +4,7 @@
 use crate::random::Random;
 use mivrozh::raw;
 use model::calls::KINDS;
+use model::header::{Header, PROFILES};
 use model::{Call, Model, Outcome};
 
 /// What the buffer of an opening holds before the call.
@@ -40,12 +41,14 @@ pub struct Both {
     random: Random,
     pub calls: [u64; 8],
     pub numbers: [[u64; 21]; 8],
+    /// Accepted calls, by the profile that the drive has afterwards.
+    pub accepted: [[u64; 8]; PROFILES.len()],
 }
 
 impl Both {
     pub fn new(seed: u64) -> Both {
         let random = Random::new(seed ^ 0x6c656e74);
-        Both { model: Model::default(), random, calls: [0; 8], numbers: [[0; 21]; 8] }
+        Both { model: Model::default(), random, calls: [0; 8], numbers: [[0; 21]; 8], accepted: Default::default() }
     }
 
     /// Makes the call to both, compares, and leaves the image as the call does.
@@ -66,6 +69,10 @@ impl Both {
         self.calls[kind] += 1;
         self.numbers[kind][found.number as usize] += 1;
         *image = found.image;
+        if found.number == 0 {
+            let profile = Header::read(image).profile().ok_or("a call is accepted on a drive of no profile")?;
+            self.accepted[profile.number as usize - 1][kind] += 1;
+        }
         Ok(found.number)
     }
 

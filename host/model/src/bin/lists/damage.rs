@@ -1,13 +1,16 @@
 //! Ways to violate each of the header's checks, one or more for each, and changes that look like damage and are none.
 
 use crate::random::Random;
-use model::header::{at, put_number, Header, DISABLED, ENABLED, NAMES};
+use model::hash::Hash;
+use model::header::{at, put, put_number, Header, DISABLED, ENABLED};
 use model::xts::SECTOR;
 
-type Damage = fn(&mut Random, &mut Vec<u8>);
+pub type Damage = fn(&mut Random, &mut Vec<u8>);
 
 /// Number, name, and the way itself. The number is the first that a drive so damaged is refused by.
-pub const WAYS: [(u8, &str, Damage); 34] = [
+pub type Way = (u8, &'static str, Damage);
+
+pub const WAYS: [Way; 35] = [
     (1, "an odd byte more", |r, image| image.extend(vec![7; r.range(1, 511)])),
     (1, "the last byte missing", |_, image| image.truncate(image.len() - 1)),
     (1, "an empty image", |_, image| image.clear()),
@@ -19,24 +22,28 @@ pub const WAYS: [(u8, &str, Damage); 34] = [
     (3, "version 0", |_, image| image[7] = 0),
     (3, "the version's first byte", |r, image| image[6] = r.range(1, 255) as u8),
     (4, "a byte of a name", |r, image| {
-        let (at, name) = name(r);
-        image[at + r.range(0, name.len() - 1)] ^= r.range(1, 255) as u8;
+        let (at, length) = name(r, image);
+        image[at + r.range(0, length - 1)] ^= r.range(1, 255) as u8;
     }),
     (4, "a name cut short", |r, image| {
-        let (at, name) = name(r);
-        image[at + r.range(0, name.len() - 1)] = 0;
+        let (at, length) = name(r, image);
+        image[at + r.range(0, length - 1)] = 0;
     }),
     (4, "a name gone on", |r, image| {
-        let (at, name) = name(r);
-        image[at + name.len()] = r.range(1, 255) as u8;
+        let (at, length) = name(r, image);
+        image[at + length] = r.range(1, 255) as u8;
     }),
     (4, "a name with no zero byte", |r, image| {
-        let (at, name) = name(r);
-        image[at + name.len()..at + 32].fill(r.range(1, 255) as u8);
+        let (at, length) = name(r, image);
+        image[at + length..at + 32].fill(r.range(1, 255) as u8);
     }),
     (4, "a name in capitals", |r, image| {
-        let (at, name) = name(r);
-        image[at..at + name.len()].make_ascii_uppercase();
+        let (at, length) = name(r, image);
+        image[at..at + length].make_ascii_uppercase();
+    }),
+    (4, "another hash that drives have", |r, image| {
+        let other = r.pick(&["sha512\0", "sha224\0", "sha2\0", "sha\0", "sha2567\0", "ripemd160\0"]);
+        put(image, at::NAMES[2], other.as_bytes());
     }),
     (4, "key bytes of no profile", |r, image| {
         let bytes = r.pick(&[0, 16, 31, 33, 48, 63, 65, 128, 0x20000000, u32::MAX]);
@@ -106,8 +113,8 @@ pub const WAYS: [(u8, &str, Damage); 34] = [
 /// Changes of a fair drive that no check refuses.
 pub const FAIR: [(&str, Damage); 5] = [
     ("anything after a name's zero byte", |r, image| {
-        let (at, name) = name(r);
-        image[at + name.len() + 1..at + 32].fill(0xff);
+        let (at, length) = name(r, image);
+        image[at + length + 1..at + 32].fill(0xff);
     }),
     ("any UUID", |_, image| image[at::UUID..at::UUID + 40].fill(0xff)),
     ("a payload at the image's end", |_, image| {
@@ -133,9 +140,11 @@ pub const FAIR: [(&str, Damage); 5] = [
     }),
 ];
 
-fn name(r: &mut Random) -> (usize, &'static str) {
-    let i = r.range(0, 2);
-    (at::NAMES[i], NAMES[i])
+/// Where a name stands and how long it is: 3 bytes ("aes") to 11 ("xts-plain64"), also where it was damaged before.
+fn name(r: &mut Random, image: &[u8]) -> (usize, usize) {
+    let at = r.pick(&at::NAMES);
+    let length = image[at..at + 32].iter().position(|b| *b == 0).unwrap_or(0);
+    (at, length.clamp(3, 11))
 }
 
 fn record(r: &mut Random) -> usize {
@@ -153,6 +162,13 @@ fn neighbours(r: &mut Random, h: &Header) -> (usize, usize) {
     order.sort_by_key(|i| h.slots[*i].start);
     let i = r.range(0, 6);
     (order[i], order[i + 1])
+}
+
+/// The header names the other hash that there is. No check of the header refuses that, and nothing has the checksum then.
+pub fn other_hash(image: &mut [u8]) {
+    let other = if Header::read(image).hash() == Some(Hash::Sha1) { Hash::Sha256 } else { Hash::Sha1 };
+    put(image, at::NAMES[2], other.name().as_bytes());
+    image[at::NAMES[2] + other.name().len()] = 0;
 }
 
 /// Keeps a damaged image's derivations short: large counts that would be used become small ones.

@@ -1,7 +1,7 @@
 //! Drives to call upon: foreign ones, laid out as no format of ours would, and what the test knows of a drive.
 
 use crate::random::Random;
-use model::header::{at, put, put_number, Header, Slot, DISABLED, MAGIC, NAMES};
+use model::header::{at, put, put_number, Header, Profile, Slot, DISABLED, MAGIC, PROFILES};
 use model::slots::Derivations;
 use model::xts::SECTOR;
 use model::Call;
@@ -39,16 +39,16 @@ impl Drive {
 
 /// Names with anything after their zero byte, magic, version, checksum: all of a header but its records and payload
 /// start.
-pub fn put_head(random: &mut Random, d: &mut Derivations, image: &mut [u8], key: &[u8]) {
+pub fn put_head(random: &mut Random, d: &mut Derivations, image: &mut [u8], profile: &Profile, key: &[u8]) {
     put(image, at::MAGIC, &MAGIC);
     put(image, at::VERSION, &[0, 1]);
-    for (at, name) in at::NAMES.into_iter().zip(NAMES) {
+    for (at, name) in at::NAMES.into_iter().zip(profile.names()) {
         put(image, at, name.as_bytes());
         image[at + name.len()] = 0;
     }
     let (salt, count) = (random.salt(), random.range(1, 3) as u32);
     put_number(image, at::KEY_BYTES, key.len() as u32);
-    put(image, at::CHECKSUM, &d.derive(key, &salt, count, 20));
+    put(image, at::CHECKSUM, &d.checksum(profile.hash, key, &salt, count));
     put(image, at::SALT, &salt);
     put_number(image, at::COUNT, count);
 }
@@ -74,11 +74,11 @@ fn put_areas(random: &mut Random, image: &mut Vec<u8>, key_length: usize) -> u32
 /// A drive of another maker: other starts, stripes that differ by slot, a payload that begins anywhere after the
 /// areas, small counts, disabled records with any count and salt. Each slot is enabled with the given chance out of
 /// 8.
-pub fn foreign(random: &mut Random, d: &mut Derivations, key: &[u8], chance: u64) -> Drive {
+pub fn foreign(random: &mut Random, d: &mut Derivations, profile: &Profile, key: &[u8], chance: u64) -> Drive {
     let mut image = random.bytes(2 * SECTOR);
     let payload = put_areas(random, &mut image, key.len()) + random.pick(&[0, 0, 1, 8]);
     put_number(&mut image, at::PAYLOAD, payload);
-    put_head(random, d, &mut image, key);
+    put_head(random, d, &mut image, profile, key);
     let units = random.range(0, 6);
     image.resize(payload as usize * SECTOR, 0);
     let more = random.bytes(units * SECTOR);
@@ -102,7 +102,7 @@ pub fn enable(random: &mut Random, d: &mut Derivations, drive: &mut Drive, k: u8
     drive.passphrases[k as usize - 1] = Some(passphrase.to_vec());
 }
 
-/// A passphrase that is allowed: mostly short, some longer than a block of SHA-1, some as long as can be.
+/// A passphrase that is allowed: mostly short, some longer than a block of the hash, some as long as can be.
 pub fn passphrase(random: &mut Random) -> Vec<u8> {
     let length = match random.range(0, 9) {
         0 => 512,
@@ -113,8 +113,8 @@ pub fn passphrase(random: &mut Random) -> Vec<u8> {
     random.bytes(length)
 }
 
-/// A key of one of the two lengths.
-pub fn key(random: &mut Random) -> Vec<u8> {
-    let length = random.pick(&[32, 64]);
-    random.bytes(length)
+/// One of the profiles, and a key of its length.
+pub fn profile_and_key(random: &mut Random) -> (&'static Profile, Vec<u8>) {
+    let profile = &PROFILES[random.range(0, PROFILES.len() - 1)];
+    (profile, random.bytes(profile.key_bytes))
 }

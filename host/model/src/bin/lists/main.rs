@@ -2,9 +2,10 @@
 //! and seeded random lists of calls. Ends with a failure at the first difference, or if a refusal number was not
 //! reached.
 //!
-//!     lists [--calls N] [--seed S]
+//!     lists [--calls N] [--seed S] [--profiles P]
 //!
-//! N is the number of calls in the random lists (20,000 if not given); the seed is printed and repeats a run.
+//! N is the number of calls in the random lists (20,000 if not given); the seed is printed and repeats a run. P is the
+//! number of profiles that each set is tried on (all if not given); where it is not all of them, they take turns.
 
 mod both;
 mod damage;
@@ -15,6 +16,7 @@ mod walks;
 
 use both::Both;
 use model::calls::KINDS;
+use model::header::PROFILES;
 use random::Random;
 use std::process::ExitCode;
 use std::time::{Instant, SystemTime, UNIX_EPOCH};
@@ -22,11 +24,12 @@ use std::time::{Instant, SystemTime, UNIX_EPOCH};
 struct Options {
     calls: usize,
     seed: u64,
+    profiles: usize,
 }
 
 fn options() -> Result<Options, String> {
     let now = SystemTime::now().duration_since(UNIX_EPOCH).map_or(0, |t| t.as_nanos() as u64);
-    let mut options = Options { calls: 20_000, seed: now };
+    let mut options = Options { calls: 20_000, seed: now, profiles: PROFILES.len() };
     let mut words = std::env::args().skip(1);
     while let Some(word) = words.next() {
         let value = words.next().ok_or(format!("{word} needs a number"))?;
@@ -34,7 +37,8 @@ fn options() -> Result<Options, String> {
         match word.as_str() {
             "--calls" => options.calls = number as usize,
             "--seed" => options.seed = number,
-            _ => return Err(format!("unknown option {word}; known are --calls N and --seed S")),
+            "--profiles" => options.profiles = (number as usize).clamp(1, PROFILES.len()),
+            _ => return Err(format!("unknown option {word}; known are --calls N, --seed S and --profiles P")),
         }
     }
     Ok(options)
@@ -42,8 +46,11 @@ fn options() -> Result<Options, String> {
 
 fn run(options: &Options, both: &mut Both) -> Result<(), String> {
     let mut random = Random::new(options.seed);
-    let sets = sets::run(both, &mut random)?;
-    println!("sets of failing checks, each reached and refused by its first number:");
+    let sets = sets::run(both, &mut random, options.profiles)?;
+    println!(
+        "sets of failing checks, each reached and refused by its first number, on {} profiles each:",
+        options.profiles
+    );
     for (name, count) in KINDS.iter().zip(sets) {
         println!("  {name:10} {count:6}");
     }
@@ -59,7 +66,8 @@ fn run(options: &Options, both: &mut Both) -> Result<(), String> {
     Ok(())
 }
 
-/// The table of calls by kind and number; false if a number of 0 to 20 was never given.
+/// The tables of calls by kind and number, and of accepted calls by kind and profile; false if a number of 0 to 20 was
+/// never given, or a call never accepted on a profile.
 fn table(both: &Both) -> bool {
     println!("number   {}     all", KINDS.map(|kind| format!("{kind:>10}")).concat());
     let mut complete = true;
@@ -71,8 +79,13 @@ fn table(both: &Both) -> bool {
     }
     let all: u64 = both.calls.iter().sum();
     println!("   all   {}{all:8}", both.calls.map(|n| format!("{n:10}")).concat());
-    let accepted = both.numbers.iter().all(|kind| kind[0] > 0);
-    complete && accepted
+    println!("profile, accepted calls");
+    for (profile, row) in PROFILES.iter().zip(both.accepted) {
+        let all: u64 = row.iter().sum();
+        println!("{:6}   {}{all:8}", profile.number, row.map(|n| format!("{n:10}")).concat());
+        complete &= row.iter().all(|n| *n > 0);
+    }
+    complete
 }
 
 fn main() -> ExitCode {
@@ -86,11 +99,12 @@ fn main() -> ExitCode {
     println!("seed {}", options.seed);
     let (began, mut both) = (Instant::now(), Both::new(options.seed));
     if let Err(message) = run(&options, &mut both) {
-        println!("FAILED with --calls {} --seed {}: {message}", options.calls, options.seed);
+        let Options { calls, seed, profiles } = options;
+        println!("FAILED with --calls {calls} --seed {seed} --profiles {profiles}: {message}");
         return ExitCode::FAILURE;
     }
     if !table(&both) {
-        println!("FAILED: a refusal number was not reached, or a call was never accepted");
+        println!("FAILED: a refusal number was not reached, or a call was never accepted on a profile");
         return ExitCode::FAILURE;
     }
     let calls: u64 = both.calls.iter().sum();

@@ -3,7 +3,7 @@
 //!
 //! Where two checks seem to be tied, what unties them: HMAC pads its key with zeros, so a master key that ends in a
 //! zero byte has its checksum without that byte too (9 without 17), the empty passphrase derives what a single zero
-//! byte derives, and a passphrase of 513 bytes what its SHA-1 digest does (14 without 17). A disabled record may
+//! byte derives, and a passphrase of 513 bytes what its digest does (14 without 17). A disabled record may
 //! still be whole (15 without 17).
 
 use crate::both::Both;
@@ -11,7 +11,7 @@ use crate::damage;
 use crate::drives::{enable, foreign, Drive};
 use crate::random::Random;
 use model::calls::KINDS;
-use model::header::{at, layout, put_number, DISABLED};
+use model::header::{at, layout, put_number, Header, Profile, DISABLED, PROFILES};
 use model::slots::short_equal;
 use model::xts::SECTOR;
 use model::Call;
@@ -50,6 +50,7 @@ fn sets(kind: usize) -> Vec<Vec<u8>> {
 
 /// A drive whose slots 1 and 2 are enabled, 3 is whole and disabled, 4 to 6 are disabled, 7 and 8 are for damage.
 struct Base {
+    profile: &'static Profile,
     drive: Drive,
     /// 513 bytes that derive what slot 2's passphrase derives.
     long: Vec<u8>,
@@ -62,86 +63,106 @@ struct Maker<'a> {
     set: &'a [u8],
 }
 
-pub fn run(both: &mut Both, random: &mut Random) -> Result<[usize; 8], String> {
-    let bases = [32, 64].map(|length| base(both, random, length));
+/// Every set, on drives of so many profiles, which take turns.
+pub fn run(both: &mut Both, random: &mut Random, profiles: usize) -> Result<[usize; 8], String> {
+    let bases = bases(both, random);
     let mut reached = [0; 8];
-    for kind in 0..8 {
+    for (kind, reached) in reached.iter_mut().enumerate() {
         for (i, set) in sets(kind).iter().enumerate() {
-            let mut maker = Maker { random, base: &bases[i % 2], set };
-            let (mut image, call) = maker.case(kind);
-            let failing = both.model.failing(&image, &call);
-            if failing != *set {
-                return Err(format!("{}: meant to fail {set:?}, fails {failing:?}\ncall: {call:?}", KINDS[kind]));
+            for base in bases.iter().cycle().skip(i % bases.len()).take(profiles) {
+                reach(both, random, base, kind, set)?;
             }
-            let number = both.run(&mut image, &call).map_err(|e| format!("failing checks {set:?}: {e}"))?;
-            let first = set.first().copied().unwrap_or(0);
-            if number != first {
-                return Err(format!("{}: of {set:?} the first is {first}, both say {number}", KINDS[kind]));
-            }
-            reached[kind] += 1;
+            *reached += 1;
         }
     }
     Ok(reached)
 }
 
-/// Each way of damage alone, before each call that would be accepted; then the changes that are no damage.
+/// One case in which exactly the checks of the set fail.
+fn reach(both: &mut Both, random: &mut Random, base: &Base, kind: usize, set: &[u8]) -> Result<(), String> {
+    let (mut image, call) = Maker { random, base, set }.case(kind);
+    let failing = both.model.failing(&image, &call);
+    if failing != *set {
+        return Err(format!("{}: meant to fail {set:?}, fails {failing:?}\ncall: {call:?}", KINDS[kind]));
+    }
+    let number = both.run(&mut image, &call).map_err(|e| format!("failing checks {set:?}: {e}"))?;
+    match set.first().copied().unwrap_or(0) {
+        first if first == number => Ok(()),
+        first => Err(format!("{}: of {set:?} the first is {first}, both say {number}", KINDS[kind])),
+    }
+}
+
+/// Each way of damage alone, before each call that would be accepted; then the changes that are no damage, and the name
+/// of the other hash, under which no key and no passphrase fits.
 pub fn ways(both: &mut Both, random: &mut Random) -> Result<usize, String> {
-    let bases = [32, 64].map(|length| base(both, random, length));
+    let bases = bases(both, random);
     let mut made = 0;
-    for (kind, call_name) in KINDS.iter().enumerate().take(8).skip(1) {
-        for (i, (number, name, damage)) in damage::WAYS.iter().enumerate() {
-            let mut maker = Maker { random, base: &bases[i % 2], set: &[] };
-            let (mut image, call) = maker.case(kind);
-            damage(random, &mut image);
-            let said = both.run(&mut image, &call).map_err(|e| format!("{name}: {e}"))?;
-            if said != *number {
-                return Err(format!("{call_name}: {name} is refused by {number}, both say {said}"));
+    for base in &bases {
+        for (kind, call_name) in KINDS.iter().enumerate().skip(1) {
+            for (number, name, damage) in damage::WAYS {
+                changed(both, random, base, kind, name, damage, number)?;
+                made += 1;
             }
+            // Revoking asks for no key.
+            let number = if *call_name == "revoke" { 0 } else { 17 };
+            changed(both, random, base, kind, "the other hash", |_, image| damage::other_hash(image), number)?;
             made += 1;
         }
-    }
-    for (kind, call_name) in KINDS.iter().enumerate().take(6).skip(1) {
-        for (i, (name, change)) in damage::FAIR.iter().enumerate() {
-            let mut maker = Maker { random, base: &bases[i % 2], set: &[] };
-            let (mut image, call) = maker.case(kind);
-            change(random, &mut image);
-            let said = both.run(&mut image, &call).map_err(|e| format!("{name}: {e}"))?;
-            if said != 0 {
-                return Err(format!("{call_name}: {name} is no damage, both say {said}"));
+        for kind in 1..6 {
+            for (name, change) in damage::FAIR {
+                changed(both, random, base, kind, name, change, 0)?;
+                made += 1;
             }
-            made += 1;
         }
     }
     Ok(made)
 }
 
-/// Profile, stripes and payload start: 01's figures.
-const FIGURES: [(u8, u32, usize); 5] = [(1, 1, 65), (1, 15, 65), (1, 16, 66), (1, 4000, 2051), (2, 4000, 4037)];
+/// A call that would be accepted, on an image that was changed: both must give this number.
+fn changed(
+    both: &mut Both,
+    random: &mut Random,
+    base: &Base,
+    kind: usize,
+    name: &str,
+    change: damage::Damage,
+    number: u8,
+) -> Result<(), String> {
+    let (mut image, call) = Maker { random, base, set: &[] }.case(kind);
+    change(random, &mut image);
+    expect(both, &mut image, &call, number).map_err(|e| format!("{name}: {e}"))
+}
 
-/// Format at each figure: an image that ends at the payload start is accepted, a sector less gives 12, a byte less 1. Then
+/// Key bytes, stripes and payload start: 01's figures.
+const FIGURES: [(usize, u32, usize); 5] = [(32, 1, 65), (32, 15, 65), (32, 16, 66), (32, 4000, 2051), (64, 4000, 4037)];
+
+/// Format at each figure, with each profile that has its key length: an image that ends at the payload start is accepted, a sector less gives 12, a byte less 1. Then
 /// slot 8 of the drive is added and opened.
 pub fn figures(both: &mut Both, random: &mut Random) -> Result<usize, String> {
     let mut made = 0;
-    for (profile, stripes, payload) in FIGURES {
-        let key = random.bytes(32 * profile as usize);
-        let call =
-            Call::Format { profile, stripes, key: key.clone(), salt: [3; 32], count: 1000, uuid: vec![b'u'; 36] };
-        let mut image = random.bytes(payload * SECTOR);
-        let passphrase = random.bytes(9);
-        let before = random.bytes((stripes as usize - 1) * key.len());
-        let add =
-            Call::Add { slot: 8, key, passphrase: passphrase.clone(), salt: [4; 32], count: 1000, random: before };
-        let short = |by: usize| image[..image.len() - by].to_vec();
-        let refused = [(short(SECTOR), 12), (short(1), 1)];
-        for (mut image, number) in refused {
-            expect(both, &mut image, &call, number)?;
+    for (key_bytes, stripes, payload) in FIGURES {
+        for profile in PROFILES.iter().filter(|p| p.key_bytes == key_bytes) {
+            figure(both, random, profile, stripes, payload)?;
+            made += 5;
         }
-        expect(both, &mut image, &call, 0)?;
-        expect(both, &mut image, &add, 0)?;
-        expect(both, &mut image, &Call::Open { passphrase }, 0)?;
-        made += 5;
     }
     Ok(made)
+}
+
+fn figure(both: &mut Both, random: &mut Random, p: &Profile, stripes: u32, payload: usize) -> Result<(), String> {
+    let (profile, key, uuid) = (p.number, random.bytes(p.key_bytes), vec![b'u'; 36]);
+    let format = Call::Format { profile, stripes, key: key.clone(), salt: [3; 32], count: 1000, uuid };
+    let mut image = random.bytes(payload * SECTOR);
+    let passphrase = random.bytes(9);
+    let before = random.bytes((stripes as usize - 1) * key.len());
+    let add = Call::Add { slot: 8, key, passphrase: passphrase.clone(), salt: [4; 32], count: 1000, random: before };
+    let short = |by: usize| image[..image.len() - by].to_vec();
+    for (mut image, number) in [(short(SECTOR), 12), (short(1), 1)] {
+        expect(both, &mut image, &format, number)?;
+    }
+    expect(both, &mut image, &format, 0)?;
+    expect(both, &mut image, &add, 0)?;
+    expect(both, &mut image, &Call::Open { passphrase }, 0)
 }
 
 fn expect(both: &mut Both, image: &mut Vec<u8>, call: &Call, number: u8) -> Result<(), String> {
@@ -151,19 +172,24 @@ fn expect(both: &mut Both, image: &mut Vec<u8>, call: &Call, number: u8) -> Resu
     }
 }
 
-fn base(both: &mut Both, random: &mut Random, key_length: usize) -> Base {
+/// One for each profile.
+fn bases(both: &mut Both, random: &mut Random) -> Vec<Base> {
+    PROFILES.iter().map(|profile| base(both, random, profile)).collect()
+}
+
+fn base(both: &mut Both, random: &mut Random, profile: &'static Profile) -> Base {
     let d = &mut both.model.derivations;
-    let mut key = random.bytes(key_length);
-    key[key_length - 1] = 0;
-    let mut drive = foreign(random, d, &key, 0);
+    let mut key = random.bytes(profile.key_bytes);
+    key[profile.key_bytes - 1] = 0;
+    let mut drive = foreign(random, d, profile, &key, 0);
     let payload = drive.header().payload as usize;
     drive.image.resize((payload + 3) * SECTOR, 0x77);
     let long = random.bytes(513);
     enable(random, d, &mut drive, 1, &[0]);
-    enable(random, d, &mut drive, 2, &short_equal(&long));
+    enable(random, d, &mut drive, 2, &short_equal(profile.hash, &long));
     enable(random, d, &mut drive, 3, &[0]);
     disable(&mut drive.image, 3);
-    Base { drive, long }
+    Base { profile, drive, long }
 }
 
 fn disable(image: &mut [u8], k: usize) {
@@ -201,7 +227,7 @@ impl Maker<'_> {
             if self.fails(number) {
                 let ways: Vec<_> =
                     damage::WAYS.iter().filter(|w| w.0 == number && w.1 != "key bytes of no profile").collect();
-                (self.random.pick(&ways).2)(self.random, image);
+                self.damage_by(image, &ways);
             }
         }
         if self.fails(5) {
@@ -217,10 +243,20 @@ impl Maker<'_> {
         }
     }
 
+    /// One of these ways. Where 17 is to fail too, the hash stays known: of another 17 says nothing.
+    fn damage_by(&mut self, image: &mut Vec<u8>, ways: &[&damage::Way]) {
+        let mut damaged = image.clone();
+        (self.random.pick(ways).2)(self.random, &mut damaged);
+        while self.fails(17) && Header::read(&damaged).hash().is_none() {
+            damaged.clone_from(image);
+            (self.random.pick(ways).2)(self.random, &mut damaged);
+        }
+        *image = damaged;
+    }
+
     fn format(&mut self) -> (Vec<u8>, Call) {
         let r = &mut *self.random;
-        let profile = r.range(1, 2) as u8;
-        let length = 32 * profile as usize;
+        let length = self.base.profile.key_bytes;
         let stripes = if self.set.contains(&8) { 0 } else { r.range(1, 20) as u32 };
         let payload = layout(stripes, length).1 as usize;
         let sectors = if self.set.contains(&12) { r.range(2, payload - 1) } else { payload + r.range(0, 2) };
@@ -229,7 +265,7 @@ impl Maker<'_> {
             let more = r.range(1, 511);
             image.extend(vec![1; more]);
         }
-        let profile = if self.set.contains(&7) { r.pick(&[0, 3, 4, 128, 255]) } else { profile };
+        let profile = if self.set.contains(&7) { r.pick(&[0, 5, 6, 128, 255]) } else { self.base.profile.number };
         let lengths = [0, 1, length - 1, length + 1, 96 - length, 128];
         let key_length = if self.set.contains(&9) { r.pick(&lengths) } else { length };
         let count = self.count();
@@ -285,7 +321,7 @@ impl Maker<'_> {
     /// A passphrase for slot k, 1 to 3: right or wrong, of a forbidden length or not.
     fn passphrase_of(&mut self, k: u8, bad: bool, wrong: bool) -> Vec<u8> {
         match (bad, wrong, k) {
-            (false, false, 2) => short_equal(&self.base.long),
+            (false, false, 2) => short_equal(self.base.profile.hash, &self.base.long),
             (false, false, _) => vec![0],
             (true, false, 2) => self.base.long.clone(),
             (true, false, _) => vec![],

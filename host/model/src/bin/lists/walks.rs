@@ -4,7 +4,7 @@ use crate::both::Both;
 use crate::damage;
 use crate::drives::{self, foreign, Drive};
 use crate::random::Random;
-use model::header::layout;
+use model::header::{layout, Profile};
 use model::xts::SECTOR;
 use model::Call;
 
@@ -36,22 +36,22 @@ fn disturb(random: &mut Random, image: &mut [u8]) {
 }
 
 fn start(both: &mut Both, random: &mut Random, made: &mut usize) -> Result<Drive, String> {
-    let key = drives::key(random);
+    let (profile, key) = drives::profile_and_key(random);
     let kind = random.range(0, 9);
     if kind < 4 {
         *made += 1;
-        return formatted(both, random, key);
+        return formatted(both, random, profile, key);
     }
     let chance = random.range(1, 6) as u64;
-    let mut drive = foreign(random, &mut both.model.derivations, &key, chance);
+    let mut drive = foreign(random, &mut both.model.derivations, profile, &key, chance);
     if kind >= 8 {
         wreck(random, &mut drive.image);
     }
     Ok(drive)
 }
 
-fn formatted(both: &mut Both, random: &mut Random, key: Vec<u8>) -> Result<Drive, String> {
-    let call = fair_format(random, key.clone());
+fn formatted(both: &mut Both, random: &mut Random, profile: &Profile, key: Vec<u8>) -> Result<Drive, String> {
+    let call = fair_format(random, profile, key.clone());
     let Call::Format { stripes, .. } = &call else { unreachable!("a format") };
     let sectors = layout(*stripes, key.len()).1 as usize + random.range(0, 6);
     let mut drive = Drive { image: random.bytes(sectors * SECTOR), key, passphrases: Default::default() };
@@ -61,16 +61,17 @@ fn formatted(both: &mut Both, random: &mut Random, key: Vec<u8>) -> Result<Drive
     }
 }
 
-fn fair_format(random: &mut Random, key: Vec<u8>) -> Call {
+fn fair_format(random: &mut Random, profile: &Profile, key: Vec<u8>) -> Call {
     let uuid = (0..36).map(|_| random.range(33, 126) as u8).collect();
-    let profile = key.len() as u8 / 32;
+    let profile = profile.number;
     let stripes = random.range(1, 20) as u32;
     Call::Format { profile, stripes, key, salt: random.salt(), count: random.range(1000, 1003) as u32, uuid }
 }
 
-/// One to three ways of damage, some bytes of the header, or nothing but random bytes.
+/// One to three ways of damage, some bits of the header, the name of the other hash, or nothing but random bytes.
 fn wreck(random: &mut Random, image: &mut Vec<u8>) {
-    match random.range(0, 4) {
+    match random.range(0, 5) {
+        5 => damage::other_hash(image),
         0 => *image = random.bytes(image.len().min(20_000)),
         1 => {
             for _ in 0..random.range(1, 3) {
@@ -107,11 +108,11 @@ fn some_call(r: &mut Random, drive: &Drive) -> Call {
 }
 
 fn format(r: &mut Random) -> Call {
-    let key = drives::key(r);
-    let mut call = fair_format(r, key);
+    let (profile, key) = drives::profile_and_key(r);
+    let mut call = fair_format(r, profile, key);
     let Call::Format { profile, stripes, key, count, uuid, .. } = &mut call else { unreachable!("a format") };
     if r.chance(1, RARE) {
-        *profile = r.byte();
+        *profile = if r.chance(1, 2) { r.range(0, 6) as u8 } else { r.byte() };
     }
     if r.chance(1, RARE) {
         *stripes = r.pick(&[0, 4001, u32::MAX, 4000, 300]);

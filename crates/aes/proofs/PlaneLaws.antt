@@ -46,7 +46,8 @@ bytes-state j q = bytes-list (λ p. laneByte j (cell p q)) (λ p. laneByte-byte 
 -- ---- MIXCOLUMNS
 
 -- eight words at equal indices
-eight-words : (q : List ℕ) (a b c d e f g h a′ b′ c′ d′ e′ f′ g′ h′ : ℕ) → a ≡ a′ → b ≡ b′ → c ≡ c′ → d ≡ d′ → e ≡ e′ → f ≡ f′ → g ≡ g′ → h ≡ h′
+eight-words : (q : List ℕ) (a b c d e f g h a′ b′ c′ d′ e′ f′ g′ h′ : ℕ) → a ≡ a′ → b ≡ b′
+    → c ≡ c′ → d ≡ d′ → e ≡ e′ → f ≡ f′ → g ≡ g′ → h ≡ h′
     → getD q a 0 ∷ getD q b 0 ∷ getD q c 0 ∷ getD q d 0 ∷ getD q e 0 ∷ getD q f 0 ∷ getD q g 0 ∷ getD q h 0 ∷ []
     ≡ getD q a′ 0 ∷ getD q b′ 0 ∷ getD q c′ 0 ∷ getD q d′ 0 ∷ getD q e′ 0 ∷ getD q f′ 0 ∷ getD q g′ 0 ∷ getD q h′ 0 ∷ []
 eight-words q a b c d e f g h a′ b′ c′ d′ e′ f′ g′ h′ ea eb ec ed ee ef eg eh =

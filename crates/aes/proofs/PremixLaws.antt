@@ -77,7 +77,8 @@ three-parts a c ha hc =
 
 parts-turned : (c a : ℕ) → c < 256 → a < 256 → xtime (c ⊕ (xtime (xtime a) ⊕ xtime (xtime c))) ≡ xtime c ⊕ (xtime (xtime (xtime a)) ⊕ xtime (xtime (xtime c)))
 parts-turned c a hc ha =
-    ap (λ (z : ℕ). xtime (c ⊕ z)) (⊕-comm (xtime (xtime a)) (xtime (xtime c))) ∙ three-parts c a hc ha ∙ ap (λ (z : ℕ). xtime c ⊕ z) (⊕-comm (xtime (xtime (xtime c))) (xtime (xtime (xtime a))))
+    ap (λ (z : ℕ). xtime (c ⊕ z)) (⊕-comm (xtime (xtime a)) (xtime (xtime c))) ∙ three-parts c a hc ha
+    ∙ ap (λ (z : ℕ). xtime c ⊕ z) (⊕-comm (xtime (xtime (xtime c))) (xtime (xtime (xtime a))))
 
 -- each row, for a column whose bytes are sums
 module _ (a b c d : ℕ) (ha : a < 256) (hb : b < 256) (hc : c < 256) (hd : d < 256) where

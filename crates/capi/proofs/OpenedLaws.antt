@@ -10,7 +10,8 @@ use Rattle.rules.specs.Profiles.{Table}
 use Rattle.rules.specs.Calls.{Call}
 use Rattle.rules.specs.Contracts.{DoesOpen, openedBytes, FillsOpened}
 
-pub laid : (b₀ b₁ b₂ key : List ℕ) (s l : ℕ) → length b₀ ≡ 66 → length key ≡ 64 → b₁ ≡ splice b₀ 0 (s ∷ l ∷ []) → b₂ ≡ splice b₁ 2 key → b₂ ≡ s ∷ l ∷ key
+pub laid : (b₀ b₁ b₂ key : List ℕ) (s l : ℕ) → length b₀ ≡ 66 → length key ≡ 64
+    → b₁ ≡ splice b₀ 0 (s ∷ l ∷ []) → b₂ ≡ splice b₁ 2 key → b₂ ≡ s ∷ l ∷ key
 laid b₀ b₁ b₂ key s l h k e₁ e₂ =
     e₂ ∙ ap (λ (x : List ℕ). splice x 2 key) e₁ ∙ splice-next b₀ 0 (s ∷ l ∷ []) 2 key (omega arith) (omega arith)
     ∙ splice-all b₀ (s ∷ l ∷ key) (omega arith)

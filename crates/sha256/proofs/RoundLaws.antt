@@ -66,7 +66,8 @@ pub turns-eight : {w₁ w₂ w₃ w₄ w₅ w₆ w₇ w₈ s₁ s₂ s₃ s₄ s
     → w₈ ≡ grow w₇ (o + 7) → s₈ ≡ mix (getD constants (t + 7) 0) (getD w₇ (o + 7) 0) s₇
     → (w₈, s₈) ≡ turns turn (w₀, s₀) t 8
 unfolding turns
-turns-eight {w₁} {w₂} {w₃} {w₄} {w₅} {w₆} {w₇} {w₈} {s₁} {s₂} {s₃} {s₄} {s₅} {s₆} {s₇} {s₈} w₀ s₀ t o ei le a₀ b₀ a₁ b₁ a₂ b₂ a₃ b₃ a₄ b₄ a₅ b₅ a₆ b₆ a₇ b₇ =
+turns-eight {w₁} {w₂} {w₃} {w₄} {w₅} {w₆} {w₇} {w₈} {s₁} {s₂} {s₃} {s₄} {s₅} {s₆} {s₇} {s₈}
+    w₀ s₀ t o ei le a₀ b₀ a₁ b₁ a₂ b₂ a₃ b₃ a₄ b₄ a₅ b₅ a₆ b₆ a₇ b₇ =
     let e₀ : (w₁, s₁) ≡ turn t (w₀, s₀) = turn-is w₀ w₁ s₀ s₁ t o ei a₀ b₀ in
     let e₁ : (w₂, s₂) ≡ turn (t + 1) (w₁, s₁) = turn-is w₁ w₂ s₁ s₂ (t + 1) (o + 1) (omega arith) a₁ b₁ in
     let e₂ : (w₃, s₃) ≡ turn (t + 2) (w₂, s₂) = turn-is w₂ w₃ s₂ s₃ (t + 2) (o + 2) (omega arith) a₂ b₂ in
@@ -108,7 +109,8 @@ grow-same m w t hm h l r =
     let a : (t % 16 + 14) % 16 ≡ (t + 14) % 16 = mod-add-mod t 16 14 in
     let b : (t % 16 + 9) % 16 ≡ (t + 9) % 16 = mod-add-mod t 16 9 in
     let c : (t % 16 + 1) % 16 ≡ (t + 1) % 16 = mod-add-mod t 16 1 in
-    let d : getD w (t % 16) 0 ≡ getD (schedule next m 48) t 0 = ap (λ (k : ℕ). getD w (k % 16) 0) (sym (add-zero t)) ∙ r 0 (omega arith) ∙ ap (λ (k : ℕ). getD (schedule next m 48) k 0) (add-zero t) in
+    let d : getD w (t % 16) 0 ≡ getD (schedule next m 48) t 0 = ap (λ (k : ℕ). getD w (k % 16) 0) (sym (add-zero t))
+    ∙ r 0 (omega arith) ∙ ap (λ (k : ℕ). getD (schedule next m 48) k 0) (add-zero t) in
     getD-set-same w (t % 16) _ 0 (omega arith)
     ∙ rw (a, b, c, r 14 (omega arith), r 9 (omega arith), r 1 (omega arith), d) (sym (schedule-next m t hm h))
 

@@ -87,7 +87,8 @@ column-⊕ x y =
     let d₁ : bitXor x y / 256 ≡ bitXor (x / 256) (y / 256) = ⊕-div x y 8 in
     let d₂ : bitXor x y / 256 / 256 ≡ bitXor (x / 256 / 256) (y / 256 / 256) = ap (λ (n : ℕ). n / 256) d₁ ∙ ⊕-div (x / 256) (y / 256) 8 in
     let d₃ : bitXor x y / 256 / 256 / 256 ≡ bitXor (x / 256 / 256 / 256) (y / 256 / 256 / 256) = ap (λ (n : ℕ). n / 256) d₂ ∙ ⊕-div (x / 256 / 256) (y / 256 / 256) 8 in
-    ap₂ _∷_ (⊕-mod x y 8) (ap₂ _∷_ (ap (λ (n : ℕ). n % 256) d₁ ∙ ⊕-mod (x / 256) (y / 256) 8) (ap₂ _∷_ (ap (λ (n : ℕ). n % 256) d₂ ∙ ⊕-mod (x / 256 / 256) (y / 256 / 256) 8)
+    ap₂ _∷_ (⊕-mod x y 8) (ap₂ _∷_ (ap (λ (n : ℕ). n % 256) d₁
+    ∙ ⊕-mod (x / 256) (y / 256) 8) (ap₂ _∷_ (ap (λ (n : ℕ). n % 256) d₂ ∙ ⊕-mod (x / 256 / 256) (y / 256 / 256) 8)
     (ap₂ _∷_ (ap (λ (n : ℕ). n % 256) d₃ ∙ ⊕-mod (x / 256 / 256 / 256) (y / 256 / 256 / 256) 8) refl)))
 
 length-column : (x : ℕ) → length (column x) ≡ 4
@@ -129,7 +130,8 @@ loaded-more s u q j x h e o =
     let z : bitXor y (getD u j 0) ≡ x = ap (λ (n : ℕ). bitXor (bitXor x n) (getD u j 0)) (o .old j (le-refl j)) ∙ ⊕-undo x (getD u j 0) in record {
       size = length-set q j y ∙ l;
       new = λ m k. ⊎-elim
-          (λ i. ap (λ (n : ℕ). column (bitXor (getD (set q j y) n 0) (getD u n 0))) i ∙ ap (λ (n : ℕ). column (bitXor n (getD u j 0))) (getD-set-same q j y 0 (omega arith)) ∙ ap column z ∙ e
+          (λ i. ap (λ (n : ℕ). column (bitXor (getD (set q j y) n 0) (getD u n 0))) i
+          ∙ ap (λ (n : ℕ). column (bitXor n (getD u j 0))) (getD-set-same q j y 0 (omega arith)) ∙ ap column z ∙ e
           ∙ ap (λ (n : ℕ). take 4 (drop (4 * n) s)) (sym i))
           (λ i. ap (λ (n : ℕ). column (bitXor n (getD u m 0))) (getD-set-other q j m y 0 (λ e. absurd (omega arith))) ∙ o .new m i)
           (eq-or-lt-of-le (below m j k));
@@ -157,7 +159,8 @@ written-more q u s₀ s s′ x j h e es o =
     let ls : length s ≡ length s₀ = o .size in record {
       size = ap length es ∙ length-splice s (4 * j) x (omega arith) ∙ ls;
       new = λ m l. ⊎-elim
-          (λ k. ap (λ (n : ℕ). column (bitXor (getD q n 0) (getD u n 0))) k ∙ sym e ∙ sym (part-splice-same s (4 * j) x (omega arith)) ∙ ap (λ (n : ℕ). take n (drop (4 * j) (splice s (4 * j) x))) lx
+          (λ k. ap (λ (n : ℕ). column (bitXor (getD q n 0) (getD u n 0))) k ∙ sym e ∙ sym (part-splice-same s (4 * j) x (omega arith))
+          ∙ ap (λ (n : ℕ). take n (drop (4 * j) (splice s (4 * j) x))) lx
           ∙ ap₂ (λ (n : ℕ) (y : List ℕ). take 4 (drop (4 * n) y)) (sym k) (sym es))
           (λ k. o .new m k ∙ sym (part-splice-before s (4 * j) x (4 * m) 4 (omega arith) (omega arith)) ∙ ap (λ (y : List ℕ). take 4 (drop (4 * m) y)) (sym es))
           (eq-or-lt-of-le (below m j l));
@@ -178,7 +181,8 @@ unfolding tweakAt
 tweak-next b t x y e f = rw add-one (f ∙ ap double e)
 
 module _ (f : List ℕ → List ℕ) where
-  from-blocks : (m : ℕ) (t s s′ : List ℕ) → length s′ ≡ m * 16 → ((b : ℕ) → b < m → part s′ (b * 16) 16 ≡ block f (tweakAt b t) (part s (b * 16) 16)) → s′ ≡ blocks f m t s
+  from-blocks : (m : ℕ) (t s s′ : List ℕ) → length s′ ≡ m * 16
+      → ((b : ℕ) → b < m → part s′ (b * 16) 16 ≡ block f (tweakAt b t) (part s (b * 16) 16)) → s′ ≡ blocks f m t s
   unfolding blocks part tweakAt
   from-blocks zero t s [] l e = refl
   from-blocks zero t s (x ∷ s′) l e = absurd (omega arith)
@@ -208,7 +212,8 @@ unfolding Firsts
 first-at n k b u vs t v f s h e l = f v s b h ∙ ap (λ (m : ℕ). cipher n v (unitBlock m)) (ap (λ (m : ℕ). m % 2 ^ 64) e ∙ mod-eq-of-lt l)
 
 -- the blocks of s under the tweak x of unit u, which is block b of t
-pub unit-under : (forward : Bool) (n k b u : ℕ) (ks vs t x s′ s : List ℕ) (f : ℕ → List ℕ → List ℕ) → Under forward n ks vs f → Firsts n vs k t → b < 32 → k + b ≡ u → u < 2 ^ 64
+pub unit-under : (forward : Bool) (n k b u : ℕ) (ks vs t x s′ s : List ℕ) (f : ℕ → List ℕ → List ℕ)
+    → Under forward n ks vs f → Firsts n vs k t → b < 32 → k + b ≡ u → u < 2 ^ 64
     → x ≡ planes.block b t → ((w : List ℕ) → Sliced (n + 2) w ks → s′ ≡ blocks (cipherOf forward n w) (length s / 16) x s) → s′ ≡ f u s
 unfolding dataUnit
 unit-under forward n k b u ks vs t x s′ s f g h hb e hu ex es =

@@ -39,7 +39,8 @@ loop-again c =
       next-inside 512 (l .at) (k .result) (length (a .s .now)) i₀ k₁,
       next-whole 512 (l .at) (k .result) (length (a .s .now)) refl i₀ (z .pre .1) (l .inv .1) k₁,
       search needs,
-      λ f g. unit-more (l .at) (k .result) (l .s) (y .last .0) _ (omega arith) (search needs) f (a .first + l .at / 512) (a .first + (l .at + k .result) / 512) (l .inv .3 f g) (omega (arith, k₁, n))
+      λ f g. unit-more (l .at) (k .result) (l .s) (y .last .0) _ (omega arith) (search needs)
+          f (a .first + l .at / 512) (a .first + (l .at + k .result) / 512) (l .inv .3 f g) (omega (arith, k₁, n))
           (λ h. omega (arith, h, k₁, n))
           (unit-under (a .forward) (a .n) (a .first) (l .at / 512) (a .first + l .at / 512) (a .ks .now) (a .vs .now) (t .result) (tweakBytes (x .result)) (y .last .0) _ f g
           (t .ensures) (omega arith) refl (omega arith) (x .ensures) (y .ensures)),

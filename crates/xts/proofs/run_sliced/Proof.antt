@@ -36,7 +36,8 @@ loop-again c =
       next-inside 16384 (l .at) (k .result) (length (a .s .now)) i₀ k₁,
       next-whole 16384 (l .at) (k .result) (length (a .s .now)) refl i₀ (z .pre .0) (l .inv .1) k₁,
       search needs,
-      λ f g. group-more (l .at) (k .result) (l .s) (y .last .0) _ (omega arith) (search needs) f (a .first + l .at / 512) (a .first + (l .at + k .result) / 512) (l .inv .3 f g) (omega (arith, k₁, n))
+      λ f g. group-more (l .at) (k .result) (l .s) (y .last .0) _ (omega arith) (search needs)
+          f (a .first + l .at / 512) (a .first + (l .at + k .result) / 512) (l .inv .3 f g) (omega (arith, k₁, n))
           (λ h. omega (arith, h, k₁, n))
           (y .ensures f g),
     )

@@ -1,6 +1,7 @@
 /*
- * The life of a drive from C: made, given two passphrases, opened, written, read, changed and revoked, in memory. Every result
- * is checked, and some refusals too. What is secret is wiped on every way out, and the stack after every call that had a key.
+ * The life of a drive from C: made, given two passphrases, opened, written, read, changed and revoked, in memory. In between it
+ * shows which slots are enabled. Every result is checked, and some refusals too. What is secret is wiped on every way out, and the
+ * stack after every call that had a key.
  */
 #define _DEFAULT_SOURCE
 #include <mivrozh.h>
@@ -123,6 +124,16 @@ static unsigned slot_of(const char *passphrase) {
     return slot;
 }
 
+/* The slots that are enabled, as the digits of a number: 17 where they are 1 and 7. No secret is asked for. */
+static unsigned enabled_slots(void) {
+    uint8_t enabled[8];
+    unsigned slot, digits = 0;
+    expect("show which slots are enabled", mivrozh_slots(image, IMAGE, enabled), 0);
+    for (slot = 1; slot <= 8; slot++)
+        if (enabled[slot - 1]) digits = 10 * digits + slot;
+    return digits;
+}
+
 static unsigned write_units(const uint8_t *with) {
     unsigned result = mivrozh_write(image, IMAGE, with, KEY, 0, UNITS, plain, PAYLOAD);
     mivrozh_wipe_stack();
@@ -157,17 +168,21 @@ int main(void) {
     image = buffer(IMAGE), key = buffer(KEY), opened = buffer(66), salt = buffer(32);
     stripes = buffer(RANDOM), filler = buffer(FILLER), plain = buffer(PAYLOAD), back = buffer(PAYLOAD);
     expect("format", format(), 0);
+    expect("  none is", enabled_slots(), 0);
     expect("open with no passphrase there: refused", slot_of(FIRST), 0);
     expect("add the first passphrase, slot 1", add(1, FIRST), 0);
     expect("add another to slot 1: refused", add(1, SECOND), 15);
     expect("revoke the only slot: refused", revoke(1), 18);
     expect("add the second passphrase, slot 7", add(7, SECOND), 0);
+    expect("  their numbers, a digit for each", enabled_slots(), 17);
     expect("the second opens slot", slot_of(SECOND), 7);
     check_payload();
     expect("change slot 7 to slot 2", change(7, SECOND, 2, THIRD), 0);
+    expect("  their numbers, a digit for each", enabled_slots(), 12);
     expect("the second opens nothing", slot_of(SECOND), 0);
     expect("the third opens slot", slot_of(THIRD), 2);
     expect("revoke slot 1", revoke(1), 0);
+    expect("  its number", enabled_slots(), 2);
     expect("the first opens nothing", slot_of(FIRST), 0);
     expect("the third opens slot", slot_of(THIRD), 2);
     puts("all as expected");

@@ -7,12 +7,13 @@
  * system call; the stack of a call stays below MIVROZH_MOST_STACK bytes. Calls on different images may run at the same time.
  *
  * RESULT. 0: accepted. Else the number of the first check that failed, in the order each call lists; then the image and every
- * lent buffer are as they were before. The 66 bytes of an opening are no such buffer: they are its answer, beside the number,
- * and every opening fills them, a refused one with zeros.
+ * lent buffer are as they were before. The 66 bytes of an opening and the arrays of the two screens are no such buffers: they are
+ * the call's answer, beside the number, and every such call fills them, a refused one with zeros.
  *
  * WHAT THE CALLER OWES.
  *   - A pointer with a length n points to n readable bytes (writable ones where it is not const). Where the length is 0 any
- *     pointer will do, also NULL. A salt is 32 bytes, an `opened` 66: these pointers are never NULL.
+ *     pointer will do, also NULL. A salt is 32 bytes, an `opened` 66, an array of a screen 8 entries: these pointers are never
+ *     NULL.
  *   - A buffer that is written overlaps no other argument.
  *   - Nobody else changes what is lent while a call runs. The header is judged first and read again later, so memory that
  *     another program can write, such as a mapping of a file, is copied before it is lent.
@@ -124,6 +125,28 @@ uint8_t mivrozh_change(uint8_t *image, size_t image_len, uint8_t from, const uin
  * Cost: no derivation.
  */
 uint8_t mivrozh_revoke(uint8_t *image, size_t image_len, uint8_t slot, const uint8_t *filler, size_t filler_len);
+
+/*
+ * Shows which slots are enabled, and nothing else. No passphrase is asked for.
+ *   enabled  for the slots 1 to 8, in this order: 1 where the slot is enabled, else 0; 8 zeros where refused
+ * Two images that pass the header check give the same answer exactly when the same slots are enabled.
+ * Refusals, in order: header.
+ * Cost: no derivation.
+ */
+uint8_t mivrozh_slots(const uint8_t *image, size_t image_len, uint8_t enabled[8]);
+
+/*
+ * Shows which slots are enabled, and each slot's numbers as the header has them, those of disabled slots too. No passphrase
+ * is asked for.
+ *   enabled  as above
+ *   counts   iterations of each slot's derivation
+ *   starts   where each slot's area begins, in sectors of the image
+ *   stripes  n of each slot; zeros in all four where refused
+ * Two images that pass the header check give the same answer exactly when they agree in these fields of all slots.
+ * Refusals, in order: header.
+ * Cost: no derivation.
+ */
+uint8_t mivrozh_slot_details(const uint8_t *image, size_t image_len, uint8_t enabled[8], uint32_t counts[8], uint32_t starts[8], uint32_t stripes[8]);
 
 /*
  * Reads and deciphers payload units, 512 bytes each, counted from 0 at the payload's start.

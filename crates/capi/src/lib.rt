@@ -1,14 +1,17 @@
 // The calls for C: each wraps one call and has its contract. host/include/mivrozh.h declares them.
 use header::PayloadUnit;
 use opening::Opened;
+use screens::Entry;
 ghost use mathlib.Core.Path.{_≡_};
-ghost use mathlib.Core.List.{_∷_};
+ghost use mathlib.Core.List.{_∷_, map};
+ghost use lib.ListN.{length};
 ghost use Rattle.rules.specs.Facts.{slotInput};
 ghost use Rattle.rules.specs.Calls.{add, change, revoke, openSlot, openAny, read, write};
 ghost use Rattle.rules.specs.Format.{formatInput};
 ghost use Rattle.rules.specs.Contracts.{Does, DoesRead, DoesFormat, FillsOpened};
 ghost use Rattle.profiles.specs.Suites.{built};
 ghost use Rattle.header.specs.Refusals.{number};
+ghost use Rattle.screens.specs.Screens.{slotScreen, detailScreen, Shows, ShowsArrays};
 
 // An opening as C has it: the number is returned, and slot, key length and the 64 key bytes are laid in the buffer.
 // These 66 bytes are the call's answer: zeros where it is refused (01: "refused, all of these are zero").
@@ -20,6 +23,29 @@ fn lay_opened(opened: &mut [u8; 66], o: Opened) -> u8
     octets::copy_into(opened, 0, &[o.slot, o.key_length]);
     octets::copy_into(opened, 2, &key);
     header::number_of(r)
+}
+
+// The entries of the second screen, a field to each buffer of eight numbers.
+fn lay_entries(
+    enabled: &mut [u8],
+    counts: &mut [u32],
+    starts: &mut [u32],
+    stripes: &mut [u32],
+    entries: [Entry; 8],
+)
+    requires { ⌜ (length (now enabled) ≡ 8) × (length (now counts) ≡ 8) × (length (now starts) ≡ 8) × (length (now stripes) ≡ 8) ⌝ }
+    ensures { λ _. ⌜ (now (enabled .exit) ≡ map (λ e. e .enabled) entries) × (now (counts .exit) ≡ map (λ e. e .count) entries)
+        × (now (starts .exit) ≡ map (λ e. e .start .0) entries) × (now (stripes .exit) ≡ map (λ e. e .stripes) entries) ⌝ }
+{
+    let mut i: usize = 0;
+    while i < 8 {
+        let e = entries[i];
+        enabled[i] = e.enabled;
+        counts[i] = e.count;
+        starts[i] = e.start.0;
+        stripes[i] = e.stripes;
+        i += 1;
+    }
 }
 
 #[no_mangle]
@@ -124,4 +150,33 @@ pub extern "C" fn mivrozh_write(
     ensures { λ r. ⌜ Does built (now (image .entry)) (write (now (key .entry)) first units (now (buffer .entry))) r (now (image .exit)) ⌝ }
 {
     header::number_of(payload::write(image, key, PayloadUnit(first), PayloadUnit(units), buffer))
+}
+
+#[no_mangle]
+pub extern "C" fn mivrozh_slots(image: &[u8], enabled: &mut [u8; 8]) -> u8
+    ensures { λ r. ⌜ Shows (slotScreen built (now (image .entry))) r (now (enabled .exit)) ⌝ }
+{
+    let s = screens::slots(image);
+    let bits = s.enabled;
+    let r = s.refusal;
+    octets::copy_into(enabled, 0, &bits);
+    header::number_of(r)
+}
+
+#[no_mangle]
+pub extern "C" fn mivrozh_slot_details(
+    image: &[u8],
+    enabled: &mut [u8; 8],
+    counts: &mut [u32; 8],
+    starts: &mut [u32; 8],
+    stripes: &mut [u32; 8],
+) -> u8
+    ensures { λ r. ⌜ ShowsArrays (detailScreen built (now (image .entry)))
+        r (now (enabled .exit)) (now (counts .exit)) (now (starts .exit)) (now (stripes .exit)) ⌝ }
+{
+    let s = screens::slot_details(image);
+    let entries = s.entries;
+    let r = s.refusal;
+    lay_entries(enabled, counts, starts, stripes, entries);
+    header::number_of(r)
 }

@@ -1,5 +1,6 @@
 // Damaged copies: every call gives the header check's number, whatever else it is handed.
 use crate::report;
+use crate::shown;
 use header::PayloadUnit;
 
 // The four bytes at an index, as one number.
@@ -60,9 +61,10 @@ fn damaged(image: &mut [u8], drive: u64, what: &[u8], at: usize, value: u32, num
     let kept = be32_at(image, at);
     put_be32(image, at, value);
     let opened = openings_refuse(image, number);
+    let screened = shown::screens_are(image, number, &[0u8; 8]);
     let changed = changes_refuse(image, number);
     put_be32(image, at, kept);
-    report::line(drive, what, opened && changed);
+    report::line(drive, what, opened && screened && changed);
 }
 
 // All calls on the image's first len bytes.
@@ -73,8 +75,9 @@ fn cut(image: &mut [u8], drive: u64, what: &[u8], len: usize, number: u8) {
     }
     let at: usize = 0;
     let opened = openings_refuse(&image[at..len], number);
+    let screened = shown::screens_are(&image[at..len], number, &[0u8; 8]);
     let changed = changes_refuse(&mut image[at..len], number);
-    report::line(drive, what, opened && changed);
+    report::line(drive, what, opened && screened && changed);
 }
 
 pub fn start_of_header(image: &mut [u8], drive: u64) {

@@ -6,8 +6,15 @@ mod made;
 mod openings;
 mod payloads;
 mod report;
+mod shown;
 
 fn as_it_is(image: &[u8], drive: u64, key: &[u8], wrong: &[u8]) {
+    shown::shows(
+        drive,
+        b"screens show slots 1, 2, 4 and 8",
+        image,
+        &[1, 1, 0, 1, 0, 0, 0, 1],
+    );
     openings::filled_slots(drive, image, key);
     openings::wrong_passphrases(drive, image);
     openings::wrong_slots(drive, image);
@@ -31,8 +38,20 @@ fn damaged_further(image: &mut [u8], drive: u64) {
 fn changed(image: &mut [u8], drive: u64, key: &[u8], wrong: &[u8], filler: &[u8], random: &[u8]) {
     changes::revoking_one(image, drive, filler);
     changes::after_revoking(drive, image, key, filler);
+    shown::shows(
+        drive,
+        b"screens show slots 1, 4 and 8",
+        image,
+        &[1, 0, 0, 1, 0, 0, 0, 1],
+    );
     changes::adding_one(image, drive, key, wrong, random);
     changes::after_adding(drive, image, key);
+    shown::shows(
+        drive,
+        b"screens show slots 1, 4, 7 and 8",
+        image,
+        &[1, 0, 0, 1, 0, 0, 1, 1],
+    );
 }
 
 fn changed_further(image: &mut [u8], drive: u64, key: &[u8], filler: &[u8], random: &[u8]) {
@@ -40,6 +59,12 @@ fn changed_further(image: &mut [u8], drive: u64, key: &[u8], filler: &[u8], rand
     changes::after_leaving(drive, image, key);
     changes::changing_one(image, drive, filler, random);
     changes::after_changing(drive, image, key);
+    shown::shows(
+        drive,
+        b"screens show slot 3",
+        image,
+        &[0, 0, 1, 0, 0, 0, 0, 0],
+    );
 }
 
 // The payload is as it was before the changes.

@@ -13,6 +13,7 @@ use Rattle.rules.specs.Header
 use Rattle.rules.specs.Calls
 use Rattle.rules.specs.Step
 use Rattle.rules.specs.Format
+use Rattle.screens.specs.Screens
 use Rattle.ledger.specs.Drive
 use Rattle.ledger.specs.Ledger
 use Rattle.example.specs.Small
@@ -32,7 +33,8 @@ unfolding _⊕_ flatten zeros bigEndian be32At xors same part splice pieces inPi
     Ledger.enterAll Ledger.sectorsIn Ledger.startLedger Small.byteSum Small.smallDerive Small.mask Small.masked Small.bumped Small.smallSuite Small.smallProfile
     Small.smallTable Example.bytes Example.theKey Example.otherKey Example.twinKey Example.shortKey Example.one Example.two Example.three Example.eight Example.wrong
     Example.slotWith Example.stripe Example.input Example.image Example.gaveKey Example.gaveTwin Example.noOpen Example.said Example.answered Example.calls Example.expected
-    Example.endLedger Example.disabledRecord Example.enabledRecord Example.endArea2 Example.endArea8 Example.endBytes Example.otherImage Example.fewerCalls
+    Example.endLedger Example.disabledRecord Example.enabledRecord Example.endArea2 Example.endArea8 Example.endBytes
+    Example.shows Example.endSlots Example.endDetails Example.otherImage Example.fewerCalls Screens.screen Screens.enabledBit Screens.detailsOf Screens.noDetails
 computed =
     record {
       accepted = refl;
@@ -43,4 +45,8 @@ computed =
       image-on-ledger = refl;
       others-accepted = refl;
       others-end = refl;
+      slots-at-end = refl;
+      details-at-end = refl;
+      slots-before = refl;
+      details-before = refl;
     }

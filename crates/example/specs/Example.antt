@@ -6,6 +6,7 @@ use Rattle.octets.specs.Octets.{zeros}
 use Rattle.rules.specs.Facts.{SlotInput, slotInput}
 use Rattle.rules.specs.Calls.{Call, add, change, revoke, openSlot, openAny, read, write, Answer}
 use Rattle.rules.specs.Format.{FormatInput}
+use Rattle.screens.specs.Screens.{Screen, Details}
 use Rattle.ledger.specs.Ledger.{Ledger, empty, live, atFormat, lastWriting}
 
 -- ---- arguments
@@ -246,6 +247,24 @@ endBytes =
     ∷ bytes 512 6  -- 33280: the payload
     ∷ bytes 512 0x28  -- 0x2A xor (1 + 1)
     ∷ [])
+
+-- ---- its screens: slots 2 and 8 are enabled
+
+-- an entry of the second screen
+unfoldable pub shows : ℕ → ℕ → ℕ → ℕ → Details
+shows enabled count start stripes = record { enabled = enabled; count = count; start = start; stripes = stripes }
+
+-- the first screen
+unfoldable pub endSlots : Screen ℕ
+endSlots = record { code = 0; entries = 0 ∷ 1 ∷ 0 ∷ 0 ∷ 0 ∷ 0 ∷ 0 ∷ 1 ∷ [] }
+
+-- the second
+unfoldable pub endDetails : Screen Details
+endDetails =
+    record {
+      code = 0;
+      entries = shows 0 0 8 2 ∷ shows 1 2 16 2 ∷ shows 0 0 24 2 ∷ shows 0 0 32 2 ∷ shows 0 0 40 2 ∷ shows 0 0 48 2 ∷ shows 0 0 56 2 ∷ shows 1 2 64 2 ∷ [];
+    }
 
 -- ---- other calls with the same end, after a format of another image
 

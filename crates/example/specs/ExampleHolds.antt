@@ -2,15 +2,16 @@
 use mathlib.Core.Path.{_≡_}
 use mathlib.Core.List.{List}
 use Prim.Native.Nat.{ℕ}
-use lib.ListN.{length}
+use lib.ListN.{length, replicate}
 use Rattle.rules.specs.Lawful.{LawfulTable}
 use Rattle.rules.specs.Calls.{openSlot, read}
 use Rattle.rules.specs.Step.{step}
 use Rattle.rules.specs.Format.{format}
+use Rattle.screens.specs.Screens.{slotScreen, detailScreen}
 use Rattle.ledger.specs.Ledger.{ledgerImage}
 use Rattle.ledger.specs.Demand3.{FormatTyped, AllTyped, SomeLive, answersGiven, lastImage, ledgerAnswers, lastLedger}
 use Rattle.example.specs.Small.{smallTable}
-use Rattle.example.specs.Example.{bytes, theKey, two, eight, input, image, calls, expected, gaveKey, gaveTwin, said, endLedger, endBytes, otherImage, fewerCalls}
+use Rattle.example.specs.Example.{bytes, theKey, two, eight, input, image, calls, expected, gaveKey, gaveTwin, said, endLedger, endBytes, shows, endSlots, endDetails, otherImage, fewerCalls}
 
 -- computed, with no use of the theorem
 pub record Computed : Type 0 where
@@ -25,6 +26,11 @@ pub record Computed : Type 0 where
   -- the other calls, after a format of the other image
   pub others-accepted : format smallTable input otherImage .code ≡ 0
   pub others-end : lastLedger smallTable input otherImage fewerCalls ≡ endLedger
+  -- the two screens of the last image, and of the image before format, which has no magic
+  pub slots-at-end : slotScreen smallTable endBytes ≡ endSlots
+  pub details-at-end : detailScreen smallTable endBytes ≡ endDetails
+  pub slots-before : slotScreen smallTable image ≡ record { code = 2; entries = replicate 8 0 }
+  pub details-before : detailScreen smallTable image ≡ record { code = 2; entries = replicate 8 (shows 0 0 0 0) }
 
 -- the theorem's hypotheses are met, and what it says then
 pub record ExampleHolds : Type 0 where

@@ -21,7 +21,11 @@ use Rattle.rules.specs.Header.{sizeOk}
 use Rattle.rules.specs.Format.{FormatInput, formatChecks, settleFormat, format}
 use Rattle.profiles.specs.Rows.{hashOf, aesXtsRow, rows}
 use Rattle.profiles.specs.Suites.{built}
+use Rattle.screens.specs.Screens.{enabledBit, detailsOf, noDetails}
+use Rattle.ledger.specs.Ledger.{startLedger, setSlot}
+use Rattle.bridge.specs.Screened.{liveBit, ledgerSlots}
 use Rattle.figures.specs.Figures.{Plain, pieceLengths, Figures}
+use Rattle.figures.proofs.ScreenFigures.{after-2, fresh-slots, fresh-details, added-slots}
 
 -- what is left to check of plain arguments, where the image has n bytes
 abbrev lengthChecks : ℕ → List Check
@@ -87,7 +91,7 @@ module _ (H : List ℕ → List ℕ) (key : List ℕ) where
   one-merged = rw (zero-mul (length key)) (zeros-xors key)
 
 pub figures : Figures
-unfolding areaSectors roundUp areaStart payloadStart first
+unfolding areaSectors roundUp areaStart payloadStart first startLedger ledgerSlots setSlot liveBit noDetails
 figures =
     record {
       sectors-32 = refl;
@@ -112,4 +116,10 @@ figures =
       pieces-4 = pieces-4;
       one-stripe = λ k. one-stripe _;
       one-merged = λ k. one-merged _;
+      fresh-slots = fresh-slots;
+      added-1-slots = λ a image f key x. added-slots a image f 1 key x;
+      added-8-slots = λ a image f key x. added-slots a image f 8 key x;
+      fresh-details = fresh-details;
+      slots-after-2 = after-2 enabledBit 0;
+      details-after-2 = after-2 detailsOf noDetails;
     }

@@ -1,19 +1,26 @@
--- The figures of 01 ("Figures to check") and of Wish 1 of 02, as statements over the definitions that the calls' contracts cite.
+-- The figures of 01 ("Figures to check") and of Wishes 1 and 2 of 02, as statements over the definitions that the calls' contracts cite.
 use mathlib.Core.Path.{_≡_}
 use mathlib.Core.List.{List, [], _∷_, _++_, map}
-use mathlib.Core.Bool.{true}
+use mathlib.Core.Bool.{true, false}
 use Prim.Native.Nat.{ℕ, _≤_}
-use lib.ListN.{length}
-use Rattle.octets.specs.Octets.{zeros}
+use lib.ListN.{length, replicate}
+use Rattle.octets.specs.Octets.{zeros, same}
 use Rattle.octets.specs.Pieces.{inPieces}
+use Rattle.octets.specs.Splice.{part}
 use Rattle.hash.specs.Hash.{digestOf}
 use Rattle.gf256.specs.Field.{xtime, sub}
 use Rattle.suite.specs.Split.{split, merge}
 use Rattle.xts.specs.Xts.{double}
 use Rattle.rules.specs.Layout.{areaSectors, areaStart, payloadStart, slots}
+use Rattle.rules.specs.Facts.{SlotInput}
+use Rattle.rules.specs.Header.{magic, sizeOk}
+use Rattle.rules.specs.Calls.{add}
+use Rattle.rules.specs.Step.{After, step}
 use Rattle.rules.specs.Format.{FormatInput, printable, format}
 use Rattle.profiles.specs.Rows.{hashOf}
 use Rattle.profiles.specs.Suites.{suiteOf, built}
+use Rattle.screens.specs.Screens.{slotScreen, detailScreen}
+use Rattle.ledger.specs.Demand3.{FormatTyped, Typed}
 
 -- format's arguments for profile 1 and any stripes that give payload 65, with nothing wrong but maybe the image's length
 pub record Plain (a : FormatInput) : Type 0 where
@@ -25,6 +32,15 @@ pub record Plain (a : FormatInput) : Type 0 where
   pub count-is : 1000 ≤ a .count
   pub uuid-long : length (a .uuid) ≡ 36
   pub uuid-printable : printable (a .uuid) ≡ true
+
+-- an accepted format on an image, by built profiles
+pub record Fresh (a : FormatInput) (image : List ℕ) : Type 0 where
+  pub typed : FormatTyped a
+  pub accepted : format built a image .code ≡ 0
+
+-- what an add on the drive that it left answers and leaves
+abbrev pub added : FormatInput → List ℕ → ℕ → List ℕ → SlotInput → After
+added a image k key x = step built (format built a image .image) (add k key x)
 
 -- how long the pieces are into which H cuts x, with the hash of profile k
 abbrev pub pieceLengths : ℕ → List ℕ → List ℕ
@@ -63,3 +79,22 @@ pub record Figures : Type 0 where
   -- "With n = 1 the only stripe is the key", of every profile
   pub one-stripe : (k : ℕ) (key : List ℕ) → split (suiteOf k .diffuse) (length key) 1 [] key ≡ key
   pub one-merged : (k : ℕ) (key : List ℕ) → merge (suiteOf k .diffuse) (length key) 1 key ≡ key
+  -- 02, "Wish 2": the first screen of a fresh drive, and after one add
+  pub fresh-slots : (a : FormatInput) (image : List ℕ) → Fresh a image
+      → slotScreen built (format built a image .image) ≡ record { code = 0; entries = 0 ∷ 0 ∷ 0 ∷ 0 ∷ 0 ∷ 0 ∷ 0 ∷ 0 ∷ [] }
+  pub added-1-slots : (a : FormatInput) (image : List ℕ) → Fresh a image → (key : List ℕ) (x : SlotInput) → Typed (add 1 key x) → added a image 1 key x .said .code ≡ 0
+      → slotScreen built (added a image 1 key x .image) ≡ record { code = 0; entries = 1 ∷ 0 ∷ 0 ∷ 0 ∷ 0 ∷ 0 ∷ 0 ∷ 0 ∷ [] }
+  pub added-8-slots : (a : FormatInput) (image : List ℕ) → Fresh a image → (key : List ℕ) (x : SlotInput) → Typed (add 8 key x) → added a image 8 key x .said .code ≡ 0
+      → slotScreen built (added a image 8 key x .image) ≡ record { code = 0; entries = 0 ∷ 0 ∷ 0 ∷ 0 ∷ 0 ∷ 0 ∷ 0 ∷ 1 ∷ [] }
+  -- the second screen of a fresh drive of L 32, n 4,000
+  pub fresh-details : (a : FormatInput) (image : List ℕ) → Fresh a image → a .profile ≡ 1 → a .stripes ≡ 4000
+      → detailScreen built (format built a image .image)
+      ≡ record {
+        code = 0;
+        entries = map (λ start. record { enabled = 0; count = 0; start = start; stripes = 4000 }) (8 ∷ 264 ∷ 520 ∷ 776 ∷ 1032 ∷ 1288 ∷ 1544 ∷ 1800 ∷ []);
+      }
+  -- zeros after refusal 2
+  pub slots-after-2 : (image : List ℕ) → sizeOk image ≡ true → same (part image 0 6) magic ≡ false
+      → slotScreen built image ≡ record { code = 2; entries = 0 ∷ 0 ∷ 0 ∷ 0 ∷ 0 ∷ 0 ∷ 0 ∷ 0 ∷ [] }
+  pub details-after-2 : (image : List ℕ) → sizeOk image ≡ true → same (part image 0 6) magic ≡ false
+      → detailScreen built image ≡ record { code = 2; entries = replicate 8 (record { enabled = 0; count = 0; start = 0; stripes = 0 }) }

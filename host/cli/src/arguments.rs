@@ -24,7 +24,7 @@ const KEY_FILE: &[&str] = &["--key-file", "--key-file-offset", "--key-file-size"
 const NEW_KEY_FILE: &[&str] = &["--new-key-file", "--new-key-file-offset", "--new-key-file-size"];
 const ITERATIONS: &[&str] = &["--iterations", "--iter-time"];
 
-const COMMANDS: [Command; 7] = [
+const COMMANDS: [Command; 9] = [
     Command {
         name: "format",
         values: &[&["--hash", "--key-size", "--checksum-iterations", "--stripes", "--uuid"], ITERATIONS, KEY_FILE],
@@ -47,6 +47,8 @@ const COMMANDS: [Command; 7] = [
         run: commands::change,
     },
     Command { name: "revoke", values: &[&["--slot"]], flags: &["--force"], help: help::REVOKE, run: commands::revoke },
+    Command { name: "slots", values: &[], flags: &["--details", "--json"], help: help::SLOTS, run: commands::slots },
+    Command { name: "uuid", values: &[], flags: &[], help: help::UUID, run: commands::uuid },
     Command { name: "test", values: &[&["--slot"], KEY_FILE], flags: &[], help: help::TEST, run: commands::test },
     Command {
         name: "read",

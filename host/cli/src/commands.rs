@@ -1,16 +1,17 @@
-//! The seven commands. Each looks at the drive first, then asks for passphrases, then acts in memory, and writes last.
+//! The nine commands. Each looks at the drive first, then asks for passphrases, then acts in memory, and writes last.
 use crate::arguments::Given;
 use crate::failure::{self, shown, Failure};
 use crate::image::{ImageFile, Purpose};
 use crate::passphrase::{self, Source};
 use crate::random;
 use crate::rate;
+use crate::screens;
 use crate::signatures;
 use crate::small;
 use crate::stages;
 use crate::transfer;
-use mivrozh::header::{Header, MOST_STRIPES, SECTOR};
-use mivrozh::{FormatInput, Hash, Opened, Profile, Refusal, Secret, SlotInput};
+use mivrozh::header::{Header, MOST_STRIPES, SECTOR, SLOTS};
+use mivrozh::{FormatInput, Hash, Opened, Profile, Refusal, Secret, SlotInput, Slots};
 use std::time::Duration;
 
 // Where the user says nothing of a derivation's length.
@@ -60,7 +61,7 @@ fn profile(given: &Given) -> Result<Profile, Failure> {
 
 // Asks before anything but zeros is overwritten. The engine has made the new drive in memory by now.
 fn confirm_loss(given: &Given, image: &ImageFile) -> Result<(), Failure> {
-    let header = Header::of(image.bytes()).ok_or_else(|| Failure::refused(Refusal::ImageSize))?;
+    let header = header_of(image)?;
     let zeroed = image.beginning(header.payload_start as usize * SECTOR)?;
     let Some(found) = signatures::found(&zeroed) else { return Ok(()) };
     let holds = format!("{} holds {found}", shown(image.path()));
@@ -83,9 +84,9 @@ fn confirm(given: &Given, question: &str, no_terminal: Failure) -> Result<(), Fa
 pub fn add(given: &Given) -> Result<(), Failure> {
     given.check_standard_input()?;
     let (old_source, new_source) = (Source::of(given, "--key-file")?, Source::of(given, "--new-key-file")?);
-    let (mut image, header) = checked(given, Purpose::Writing)?;
+    let (mut image, slots) = checked(given, Purpose::Writing)?;
     let count = iterations(given, small::profile_of(image.bytes()).map_err(Failure::refused)?)?;
-    let slot = free_slot(given.slot("--slot")?, &header)?;
+    let slot = free_slot(given.slot("--slot")?, &slots)?;
     let opened = open(&mut image, None, &old_source, "Passphrase that the drive has: ")?;
     let passphrase = passphrase::new(&new_source, &format!("New passphrase, for key slot {slot}: "))?;
     let header = add_key(&mut image, slot, &opened.key, &passphrase, count)?;
@@ -96,13 +97,19 @@ pub fn add(given: &Given) -> Result<(), Failure> {
 pub fn change(given: &Given) -> Result<(), Failure> {
     given.check_standard_input()?;
     let (old_source, new_source) = (Source::of(given, "--key-file")?, Source::of(given, "--new-key-file")?);
-    let (mut image, header) = checked(given, Purpose::Writing)?;
+    let (mut image, slots) = checked(given, Purpose::Writing)?;
+    let header = header_of(&image)?;
     let count = iterations(given, small::profile_of(image.bytes()).map_err(Failure::refused)?)?;
-    let to = free_slot(given.slot("--to")?, &header)?;
+    let to = free_slot(given.slot("--to")?, &slots)?;
     let from = given.slot("--slot")?;
+    let screen = screens::table(&slots);
+    passphrase::show_before(&old_source, &screen)?;
     let (opened, old) =
         passphrase::tried(&old_source, "Old passphrase: ", |passphrase| opened_with(&mut image, from, passphrase))?;
     let from = opened.slot;
+    if !old_source.asks() {
+        passphrase::show_before(&new_source, &screen)?;
+    }
     let new = passphrase::new(&new_source, &format!("New passphrase, for key slot {to}: "))?;
 
     let before = image.bytes()[..2 * SECTOR].to_vec();
@@ -119,19 +126,38 @@ pub fn change(given: &Given) -> Result<(), Failure> {
 pub fn revoke(given: &Given) -> Result<(), Failure> {
     given.required("--slot")?;
     let slot = given.slot("--slot")?.unwrap_or(0);
-    let (mut image, header) = checked(given, Purpose::Writing)?;
+    let (mut image, slots) = checked(given, Purpose::Writing)?;
+    let header = header_of(&image)?;
     let filler = random::bytes(header.area_length(slot))?;
     let revoked = image.drive().revoke(slot, filler.expose());
-    revoked.map_err(|refusal| of_used_slot(refusal, slot, &header))?;
-    let stay = match header.enabled_slots().count() - 1 {
+    revoked.map_err(|refusal| of_used_slot(refusal, slot, &slots))?;
+    let stay = match slots.enabled().count() - 1 {
         1 => "1 other passphrase stays".into(),
         others => format!("{others} other passphrases stay"),
     };
-    let question = format!("Key slot {} of {} will be revoked; {stay}.", numbered(slot), shown(image.path()));
+    let screen = screens::table(&slots);
+    let question = format!("{screen}Key slot {} of {} will be revoked; {stay}.", numbered(slot), shown(image.path()));
     let no_terminal = "there is no terminal to ask at; use --force to revoke the key slot unasked";
     confirm(given, &question, Failure::usage(no_terminal))?;
     image.write_back(&stages::of_revoke(&header, slot))?;
     say(format!("key slot {} is free; {stay}", numbered(slot)))
+}
+
+pub fn slots(given: &Given) -> Result<(), Failure> {
+    let (image, slots) = checked(given, Purpose::Looking)?;
+    let header = header_of(&image)?;
+    transfer::print(&match (given.has("--details"), given.has("--json")) {
+        (false, false) => screens::table(&slots),
+        (false, true) => screens::json(&slots),
+        (true, false) => screens::details_table(header.slots()),
+        (true, true) => screens::details_json(header.slots()),
+    })
+}
+
+// What is no printable ASCII is escaped: the header may have anything there.
+pub fn uuid(given: &Given) -> Result<(), Failure> {
+    let (image, _) = checked(given, Purpose::Looking)?;
+    transfer::print(&format!("{}\n", header_of(&image)?.uuid().escape_ascii()))
 }
 
 pub fn test(given: &Given) -> Result<(), Failure> {
@@ -144,9 +170,9 @@ pub fn test(given: &Given) -> Result<(), Failure> {
 pub fn read(given: &Given) -> Result<(), Failure> {
     let target = given.required("--out")?;
     let source = Source::of(given, "--key-file")?;
-    let (mut image, header) = checked(given, Purpose::Reading)?;
+    let (mut image, _) = checked(given, Purpose::Reading)?;
     let first = given.number("--first")?.unwrap_or(0);
-    let payload = payload_units(&image, &header);
+    let payload = payload_units(&image)?;
     let units = given.number("--units")?.unwrap_or(payload.saturating_sub(first));
     let opened = open(&mut image, given.slot("--slot")?, &source, "Passphrase: ")?;
     transfer::check_range(&mut image, &opened.key, first, units).map_err(|refusal| beyond(refusal, payload))?;
@@ -158,9 +184,9 @@ pub fn write(given: &Given) -> Result<(), Failure> {
     given.check_standard_input()?;
     let data = given.required("--in")?;
     let source = Source::of(given, "--key-file")?;
-    let (mut image, header) = checked(given, Purpose::Writing)?;
+    let (mut image, _) = checked(given, Purpose::Writing)?;
     let first = given.number("--first")?.unwrap_or(0);
-    let payload = payload_units(&image, &header);
+    let payload = payload_units(&image)?;
     let (input, units) = transfer::input(data, &image)?;
     let opened = open(&mut image, given.slot("--slot")?, &source, "Passphrase: ")?;
     transfer::check_range(&mut image, &opened.key, first, units.unwrap_or(0))
@@ -169,8 +195,8 @@ pub fn write(given: &Given) -> Result<(), Failure> {
     say(format!("{} written", transfer::counted(done)))
 }
 
-fn payload_units(image: &ImageFile, header: &Header) -> u64 {
-    (image.bytes().len() / SECTOR) as u64 - u64::from(header.payload_start)
+fn payload_units(image: &ImageFile) -> Result<u64, Failure> {
+    Ok((image.bytes().len() / SECTOR) as u64 - u64::from(header_of(image)?.payload_start))
 }
 
 // A slot's number, and what cryptsetup and qemu call it.
@@ -194,25 +220,30 @@ fn iterations(given: &Given, profile: Profile) -> Result<u32, Failure> {
     }
 }
 
-// Opens the file and has the engine check the header, before anything is asked for.
-fn checked(given: &Given, purpose: Purpose) -> Result<(ImageFile, Header), Failure> {
+// Opens the file and has the engine check the header and show the slots, before anything is asked for.
+fn checked(given: &Given, purpose: Purpose) -> Result<(ImageFile, Slots), Failure> {
     let mut image = ImageFile::open(given.image(), purpose)?;
-    let checked = image.drive().check();
-    checked.map_err(|refusal| Failure::refused_header(refusal, image.bytes()))?;
-    let header = Header::of(image.bytes()).ok_or_else(|| Failure::refused(Refusal::ImageSize))?;
-    Ok((image, header))
+    let slots = image.drive().slots();
+    let slots = slots.map_err(|refusal| Failure::refused_header(refusal, image.bytes()))?;
+    Ok((image, slots))
+}
+
+// The header of a drive that the engine has checked or made.
+fn header_of(image: &ImageFile) -> Result<Header, Failure> {
+    Header::of(image.bytes()).map_err(Failure::refused)
 }
 
 // The slot for a new passphrase: the one that was asked for, if it is free, or the first free one.
-fn free_slot(asked: Option<u8>, header: &Header) -> Result<u8, Failure> {
-    let Some(slot) = asked else {
-        let none = "every key slot is in use; revoke one first";
-        return header.free_slot().ok_or_else(|| Failure::refused_because(Refusal::WrongState, none));
-    };
-    match header.slot(slot) {
-        None => Err(Failure::refused_slot(Refusal::BadSlot, slot)),
-        Some(record) if record.enabled => {
-            let sentence = match header.free_slot() {
+fn free_slot(asked: Option<u8>, slots: &Slots) -> Result<u8, Failure> {
+    match (asked, slots.free()) {
+        (None, Some(free)) => Ok(free),
+        (None, None) => {
+            Err(Failure::refused_because(Refusal::WrongState, "every key slot is in use; revoke one first"))
+        }
+        (Some(slot), _) if !(1..=SLOTS).contains(&slot) => Err(Failure::refused_slot(Refusal::BadSlot, slot)),
+        (Some(slot), _) if !slots.is_enabled(slot) => Ok(slot),
+        (Some(slot), free) => {
+            let sentence = match free {
                 Some(free) => {
                     format!("key slot {} is in use; choose a free one, such as {}", numbered(slot), numbered(free))
                 }
@@ -220,7 +251,6 @@ fn free_slot(asked: Option<u8>, header: &Header) -> Result<u8, Failure> {
             };
             Err(Failure::refused_because(Refusal::WrongState, sentence))
         }
-        Some(_) => Ok(slot),
     }
 }
 
@@ -240,13 +270,13 @@ fn opened_with(image: &mut ImageFile, slot: Option<u8>, passphrase: &Secret) -> 
             other => Failure::refused(other),
         });
     };
-    let header = drive.header().ok_or_else(|| Failure::refused(Refusal::ImageSize))?;
-    drive.open_slot(slot, passphrase).map_err(|refusal| of_used_slot(refusal, slot, &header))
+    let slots = drive.slots().map_err(Failure::refused)?;
+    drive.open_slot(slot, passphrase).map_err(|refusal| of_used_slot(refusal, slot, &slots))
 }
 
 // A refusal about a slot that has to be in use.
-fn of_used_slot(refusal: Refusal, slot: u8, header: &Header) -> Failure {
-    let used: Vec<String> = header.enabled_slots().map(|slot| slot.to_string()).collect();
+fn of_used_slot(refusal: Refusal, slot: u8, slots: &Slots) -> Failure {
+    let used: Vec<String> = slots.enabled().map(|slot| slot.to_string()).collect();
     match refusal {
         Refusal::WrongState => {
             let sentence = format!("key slot {} is not in use; these are: {}", numbered(slot), used.join(", "));
@@ -271,12 +301,11 @@ fn beyond(refusal: Refusal, payload: u64) -> Failure {
     }
 }
 
-// Adds the key to a slot, in memory, and gives the header with the slot enabled.
+// Adds the key to a slot, in memory, and gives the header from before, by which the areas lie.
 fn add_key(image: &mut ImageFile, slot: u8, key: &Secret, passphrase: &Secret, count: u32) -> Result<Header, Failure> {
-    let mut drive = image.drive();
-    let header = drive.header().ok_or_else(|| Failure::refused(Refusal::ImageSize))?;
+    let header = header_of(image)?;
     let (salt, random) = (random::salt()?, random::bytes(header.random_length(slot))?);
     let input = SlotInput::new(passphrase, &salt, count, random.expose());
-    drive.add(slot, key, &input).map_err(|refusal| Failure::refused_slot(refusal, slot))?;
+    image.drive().add(slot, key, &input).map_err(|refusal| Failure::refused_slot(refusal, slot))?;
     Ok(header)
 }

@@ -10,6 +10,8 @@ Commands:
   add      add a passphrase
   change   change a passphrase
   revoke   remove a passphrase
+  slots    show which key slots are enabled
+  uuid     print the drive's UUID
   test     say which key slot a passphrase opens
   read     decipher units of the payload into a file
   write    encipher a file into units of the payload
@@ -107,7 +109,8 @@ mivrozh change: change a passphrase
 Usage: mivrozh change [OPTIONS] IMAGE
 
 Opens a key slot with its passphrase, puts the key under the new passphrase into a free slot, and then revokes the first. So
-a free slot is needed, and the passphrase has another slot afterwards.
+a free slot is needed, and the passphrase has another slot afterwards. Where a passphrase is asked for, you see first
+which slots are enabled.
 
 Options:
   --slot N                   the key slot to change, 1 to 8 (default: the first that the passphrase opens); cryptsetup
@@ -132,7 +135,7 @@ mivrozh revoke: remove a passphrase
 Usage: mivrozh revoke [OPTIONS] --slot N IMAGE
 
 Overwrites the slot's area with random bytes and disables the slot. No passphrase is asked for, but whether this slot is
-meant. The last slot in use is not revoked.
+meant, and you see which slots are enabled. The last slot in use is not revoked.
 
 Options:
   --slot N    the key slot, 1 to 8; cryptsetup counts from 0: our 1 is its 0
@@ -140,6 +143,39 @@ Options:
 
 Example:
   mivrozh revoke --slot 2 drive.img
+";
+
+pub const SLOTS: &str = "\
+mivrozh slots: show which key slots are enabled
+
+Usage: mivrozh slots [OPTIONS] IMAGE
+
+Shows of each key slot, 1 to 8, whether it is enabled, that is, has a passphrase. cryptsetup counts from 0: our 1 is
+its 0, and the table has both numbers. No passphrase is asked for, and nothing is changed.
+
+With --json one object is printed. Its list \"slots\" has an object for each key slot, with the numbers \"slot\"
+(from 1) and, with --details, \"count\" (the iterations), \"start\" and \"stripes\"; \"enabled\" is true or false.
+
+Options:
+  --details    also show the iterations, the start of the area (in sectors of 512 bytes) and the stripes that the
+               header has for each key slot, enabled or not
+  --json       print JSON in place of the table, for programs
+
+Example:
+  mivrozh slots drive.img
+  mivrozh slots --details --json drive.img
+";
+
+pub const UUID: &str = "\
+mivrozh uuid: print the drive's UUID
+
+Usage: mivrozh uuid IMAGE
+
+Prints the UUID that the header has. No passphrase is asked for, and nothing is changed. What is no printable character
+of ASCII is escaped, such as \\xff, and so are quotes and backslashes.
+
+Example:
+  mivrozh uuid drive.img
 ";
 
 pub const TEST: &str = "\

@@ -4,7 +4,7 @@ use crate::failure::{self, shown, Failure};
 use crate::small;
 use crate::stages::Stage;
 use crate::system::{self, Memory};
-use mivrozh::header::{Header, SECTOR, SLOTS};
+use mivrozh::header::{Header, SECTOR};
 use mivrozh::{Drive, Secret};
 use std::fs::{File, OpenOptions, TryLockError};
 use std::io::{self, Seek, SeekFrom};
@@ -24,6 +24,8 @@ const O_EXCL: i32 = 0o200;
 
 #[derive(Clone, Copy, PartialEq)]
 pub enum Purpose {
+    /// What the header says, also of a drive whose key areas cannot be read any more.
+    Looking,
     Reading,
     Writing,
 }
@@ -38,7 +40,7 @@ pub struct ImageFile {
 }
 
 impl ImageFile {
-    /// Opens and locks a file or block device and loads its header and key areas.
+    /// Opens and locks a file or block device and loads its header and the key areas that the purpose needs.
     pub fn open(path: &Path, purpose: Purpose) -> Result<ImageFile, Failure> {
         let kind = path.metadata().map_err(|error| Failure::no_input(path, &error))?.file_type();
         if !(kind.is_file() || kind.is_block_device()) {
@@ -129,20 +131,22 @@ impl ImageFile {
         Ok(())
     }
 
-    // The part that the engine's checks and openings look at, and for writing what stands beside what is written. Where the
-    // header is damaged, what lies outside of the image is left out: the engine refuses it.
+    // The part that the engine's checks and openings look at, and for writing what stands beside what is written. An
+    // area lies within the image where the header passes the engine's check; of another nothing more is needed.
     fn load_header_and_areas(&mut self, purpose: Purpose) -> Result<(), Failure> {
         let lead = LEAD.min(self.bytes().len());
         self.load_own(0..lead)?;
         self.header = self.bytes()[..HEADER_SECTORS.min(lead)].to_vec();
-        let Some(header) = Header::of(self.bytes()) else { return Ok(()) };
-        for number in 1..=SLOTS {
-            let Some(slot) = header.slot(number) else { continue };
-            let start = slot.start as usize * SECTOR;
-            let end = start + header.area_length(number).next_multiple_of(SECTOR);
-            let is_looked_at = slot.enabled || purpose == Purpose::Writing;
-            if is_looked_at && start >= HEADER_SECTORS && end <= self.bytes().len() {
-                // What is loaded twice where a header's areas overlap is the same.
+        let Ok(header) = Header::of(self.bytes()) else { return Ok(()) };
+        for (number, slot) in header.slots().iter() {
+            let needed = match purpose {
+                Purpose::Looking => false,
+                Purpose::Reading => slot.enabled,
+                Purpose::Writing => true,
+            };
+            if needed {
+                let start = slot.start as usize * SECTOR;
+                let end = start + header.area_length(number).next_multiple_of(SECTOR);
                 self.load_own(start.max(lead)..end.max(lead))?;
             }
         }
@@ -210,7 +214,7 @@ fn cannot_open(path: &Path, purpose: Purpose, error: &io::Error) -> Failure {
             );
             Failure::new(failure::BUSY, message)
         }
-        Purpose::Reading => Failure::no_input(path, error),
+        Purpose::Looking | Purpose::Reading => Failure::no_input(path, error),
         Purpose::Writing => Failure::cannot_write(path, error),
     }
 }
@@ -218,7 +222,7 @@ fn cannot_open(path: &Path, purpose: Purpose, error: &io::Error) -> Failure {
 // Two locks: one that programs like this one see, and one that qemu sees. A file system without the second kind has the first.
 fn lock(file: &File, path: &Path, purpose: Purpose) -> Result<(), Failure> {
     let (whole, by_range) = match purpose {
-        Purpose::Reading => (file.try_lock_shared(), system::lock_for_reading(file)),
+        Purpose::Looking | Purpose::Reading => (file.try_lock_shared(), system::lock_for_reading(file)),
         Purpose::Writing => (file.try_lock(), system::lock_for_writing(file)),
     };
     match whole {

@@ -12,6 +12,7 @@ mod passphrase;
 mod pipeline;
 mod random;
 mod rate;
+mod screens;
 mod sections;
 mod signatures;
 mod small;

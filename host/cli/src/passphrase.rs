@@ -35,6 +35,11 @@ impl Source<'_> {
         Ok(Source { file, offset: number("offset")?.unwrap_or(0), size: number("size")? })
     }
 
+    /// Whether it is asked for at the terminal.
+    pub fn asks(&self) -> bool {
+        self.file.is_none()
+    }
+
     // Every byte counts, a newline at the file's end too. Of a passphrase that is too long one byte more than the longest is
     // kept, so that the engine sees it.
     fn read(&self, path: &Path) -> Result<Secret, Failure> {
@@ -117,6 +122,14 @@ pub fn new(source: &Source, prompt: &str) -> Result<Secret, Failure> {
             0 => return Ok(secret),
             _ => say(&terminal, wrong)?,
         }
+    }
+}
+
+/// Shows a text at the terminal before a passphrase is asked for there, and nothing where it comes from a file.
+pub fn show_before(source: &Source, text: &str) -> Result<(), Failure> {
+    match source.asks() {
+        true => terminal()?.write_all(text.as_bytes()).map_err(|error| Failure::input_output("the terminal", &error)),
+        false => Ok(()),
     }
 }
 

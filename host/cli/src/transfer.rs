@@ -162,7 +162,7 @@ struct Payload<'a> {
 
 impl Payload<'_> {
     fn new<'a>(image: &'a ImageFile, key: &'a Secret, units: Option<u64>) -> Result<Payload<'a>, Failure> {
-        let header = Header::of(image.bytes()).ok_or_else(|| Failure::refused(Refusal::ImageSize))?;
+        let header = Header::of(image.bytes()).map_err(Failure::refused)?;
         Ok(Payload { image, key, start: header.payload_start.into(), plan: Plan::new(units) })
     }
 }

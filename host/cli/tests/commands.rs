@@ -364,7 +364,7 @@ fn messages_and_help_say_what_cryptsetup_calls_a_slot() {
     let revoked = folder.line("revoke --force --slot 4 drive").accepted();
     assert_eq!(revoked.out, "key slot 4 (cryptsetup's 3) is free; 1 other passphrase stays\n");
     assert!(folder.line("--help").accepted().out.contains("our slot 1 is their slot 0"));
-    for name in ["add", "change", "revoke", "test"] {
+    for name in ["add", "change", "revoke", "slots", "test"] {
         let help = folder.line(&format!("{name} --help")).accepted().out;
         let words: Vec<&str> = help.split_whitespace().collect();
         assert!(words.join(" ").contains("cryptsetup counts from 0: our 1 is its 0"), "{name}");
@@ -376,7 +376,7 @@ fn help_for_each_command_with_an_example() {
     let folder = Folder::new();
     let tool_help = folder.line("--help").accepted().out;
     assert!(tool_help.contains("Example:"));
-    for name in ["format", "add", "change", "revoke", "test", "read", "write"] {
+    for name in ["format", "add", "change", "revoke", "slots", "uuid", "test", "read", "write"] {
         assert!(tool_help.contains(&format!("\n  {name} ")), "{name}");
         let help = folder.line(&format!("{name} --help")).accepted().out;
         assert!(help.starts_with(&format!("mivrozh {name}: ")), "{help}");

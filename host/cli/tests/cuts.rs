@@ -13,14 +13,7 @@ const LOST: [&str; 4] = ["none", "all", "even", "odd"];
 
 fn shim() -> &'static PathBuf {
     static SHIM: OnceLock<PathBuf> = OnceLock::new();
-    SHIM.get_or_init(|| {
-        let source = concat!(env!("CARGO_MANIFEST_DIR"), "/tests/cut.c");
-        let library = PathBuf::from(env!("CARGO_TARGET_TMPDIR")).join(format!("cut-{}.so", std::process::id()));
-        let mut gcc = Command::new("gcc");
-        gcc.args(["-Wall", "-Wextra", "-Werror", "-O1", "-fPIC", "-shared", source, "-o"]).arg(&library);
-        assert!(gcc.status().expect("gcc runs").success());
-        library
-    })
+    SHIM.get_or_init(|| preloaded("cut.c"))
 }
 
 // Runs a line of words with the shim, set up by these variables.

@@ -25,14 +25,18 @@ fn with_header(at: usize, bytes: &[u8]) -> Folder {
 }
 
 // What each command that needs a drive is given here.
-const COMMANDS: [&str; 6] = [
+const COMMANDS: [&str; 8] = [
     "add --iterations 1000 --key-file one --new-key-file two drive",
     "change --iterations 1000 --key-file one --new-key-file two drive",
     "revoke --force --slot 1 drive",
+    "slots --details drive",
+    "uuid drive",
     "test --key-file one drive",
     "read --key-file one --out out drive",
     "write --key-file one --in two drive",
 ];
+// Those that change nothing.
+const READING: [&str; 4] = ["slots", "uuid", "test", "read"];
 
 #[test]
 fn wrong_usage() {
@@ -149,7 +153,8 @@ fn a_read_only_file() {
     };
     run("test --key-file one drive").accepted();
     assert_eq!(run("read --key-file one --out - drive").status, 0);
-    let writing = COMMANDS.iter().filter(|line| !line.starts_with("test") && !line.starts_with("read"));
+    let writing = COMMANDS.iter().filter(|line| !READING.iter().any(|name| line.starts_with(name)));
+    assert_eq!(writing.clone().count(), COMMANDS.len() - READING.len());
     for line in writing.chain(&["format --force --key-file one drive"]) {
         run(line).failed(73, "drive: it cannot be opened for writing: permission denied; check");
     }

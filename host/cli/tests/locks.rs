@@ -12,7 +12,13 @@ const WRITING: [&str; 4] = [
     "revoke --force --slot 1 drive",
     "write --key-file one --in data drive",
 ];
-const READING: [&str; 2] = ["test --key-file one drive", "read --force --key-file one --out out drive"];
+const READING: [&str; 5] = [
+    "test --key-file one drive",
+    "read --force --key-file one --out out drive",
+    "slots drive",
+    "slots --details drive",
+    "uuid drive",
+];
 
 fn with_data() -> Folder {
     let folder = Folder::with_drive();

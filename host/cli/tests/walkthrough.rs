@@ -52,6 +52,9 @@ fn the_walkthrough_works_as_it_stands() {
     let (status, shown) = session.end();
     assert_eq!(status, 0, "{shown}");
     assert!(shown.contains("key slot 3 opens") && shown.contains("4096 units written"), "{shown}");
+    // By `slots`, and before the questions of change and revoke.
+    assert_eq!(shown.matches("slot  cryptsetup's  state\r\n").count(), 3, "{shown}");
+    assert_eq!(shown.matches("   3             2  enabled\r\n").count(), 2, "{shown}");
     assert_eq!(folder.get("back").len(), 2 << 20);
     assert!(folder.get("back") == folder.get("pedigrees"));
 }

@@ -2,6 +2,7 @@
 
 use crate::hands::{Hand, Library, Tool};
 use crate::peers::{Cryptsetup, Qemu};
+use crate::screens::agree;
 use crate::work::{load, random, store, Checks, Folder, Outcome};
 use model::header::Header;
 use model::xts::SECTOR;
@@ -37,6 +38,11 @@ fn used(folder: &Folder, checks: &mut Checks, image: &Path, plain: &[u8]) -> Out
         let read = hand.read(image, PASSPHRASE, 0, UNITS as u64)?;
         checks.check(&format!("the {name} opens it"), opened == Ok(1))?;
         checks.check(&format!("the {name} reads what qemu wrote"), read == plain)?;
+        let (slots, details) = (hand.slots(image)?, hand.details(image)?);
+        let (dump, info) = (Cryptsetup { folder }.slots(image)?, Qemu { folder }.slots(image)?);
+        checks.check(&format!("the {name} shows slot 1 enabled"), slots == [1])?;
+        checks.check(&format!("the {name} shows what luksDump shows"), agree(&details, &dump))?;
+        checks.check(&format!("the {name} shows what qemu-img info shows"), agree(&details, &info))?;
     }
     Ok(())
 }

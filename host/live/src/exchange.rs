@@ -3,6 +3,7 @@
 
 use crate::hands::{key_of, Hand};
 use crate::peers::{Cryptsetup, Qemu};
+use crate::screens::{agree, enabled, of_model};
 use crate::work::{load, random, store, Checks, Folder, Kind, Outcome};
 use model::header::Header;
 use model::xts::SECTOR;
@@ -111,8 +112,25 @@ impl Exchange<'_> {
         self.maker != Maker::Ourselves
     }
 
+    /// What we show of the slots is what cryptsetup shows, and qemu where it reads the drive.
+    fn screens(&mut self, when: &str) -> Outcome<()> {
+        let (slots, details) = (self.hand.slots(&self.image)?, self.hand.details(&self.image)?);
+        let (dump, models) = (self.cryptsetup.slots(self.image())?, of_model(&load(&self.image)?));
+        let c = &mut self.checks;
+        c.check(&format!("{when}, we show the enabled slots that luksDump shows"), slots == enabled(&dump))?;
+        c.check(&format!("{when}, we show its iterations, offsets and stripes"), agree(&details, &dump))?;
+        c.check(&format!("{when}, we show what the model shows, of disabled slots too"), agree(&details, &models))?;
+        if self.qemu_can() {
+            let info = self.qemu.slots(self.image())?;
+            self.checks.check(&format!("{when}, we show what qemu-img info shows"), agree(&details, &info))?;
+        }
+        Ok(())
+    }
+
     fn opening(&mut self) -> Outcome<()> {
+        self.screens("on the new drive")?;
         self.maker_adds(FIRST, 8, SECOND)?;
+        self.screens("after a peer's addition")?;
         let by_slot = |slot, passphrase| self.hand.open_slot(&self.image, slot, passphrase);
         let (first, eighth) = (by_slot(1, FIRST)?, by_slot(8, SECOND)?);
         let (wrong, disabled) = (by_slot(8, FIRST)?, by_slot(2, FIRST)?);
@@ -134,7 +152,9 @@ impl Exchange<'_> {
         let call = Call::Open { passphrase: SECOND.as_bytes().to_vec() };
         let models = Model::default().step(&bytes, &call);
         let ours = key_of(&bytes, SECOND)?;
+        let uuids = (self.hand.uuid(&self.image)?, self.cryptsetup.uuid(self.image())?);
         let c = &mut self.checks;
+        c.check("our UUID is cryptsetup's", uuids.0.len() == 36 && uuids.0 == uuids.1)?;
         c.check("the header has the profile", profile == Some(self.kind.profile()))?;
         c.check("the key has the right length", theirs.len() == self.kind.bits / 8)?;
         c.check("our key is cryptsetup's volume key", ours == theirs)?;
@@ -181,6 +201,7 @@ impl Exchange<'_> {
         c.check("cryptsetup opens the slot that we added", opens)?;
         c.check("and not with a wrong passphrase", !wrong)?;
         c.check("luksDump shows slots 1, 5 and 8 enabled", enabled == [1, 5, 8])?;
+        self.screens("after our addition")?;
         self.judge_payload("the payload is read under the passphrase that we added", THIRD)
     }
 
@@ -193,6 +214,7 @@ impl Exchange<'_> {
         c.check("cryptsetup opens the changed slot with the new passphrase", new)?;
         c.check("and no more with the old", !old)?;
         c.check("luksDump shows slots 3, 5 and 8 enabled", enabled == [3, 5, 8])?;
+        self.screens("after our change")?;
         if self.qemu_can() {
             let reads = self.qemu.reads(self.image(), FIRST);
             self.checks.check("qemu refuses the old passphrase", !reads)?;
@@ -208,7 +230,8 @@ impl Exchange<'_> {
         let kept = h.slots[7].start != 0 && h.slots[7].stripes == 4000;
         self.checks.check("cryptsetup does not open the slot that we revoked", !opens)?;
         self.checks.check("luksDump shows slots 3 and 5 enabled", enabled == [3, 5])?;
-        self.checks.check("the revoked record keeps its start and stripes", kept)
+        self.checks.check("the revoked record keeps its start and stripes", kept)?;
+        self.screens("after our revocation")
     }
 
     /// The maker goes on with the drive that we changed, and we judge what it did.
@@ -216,15 +239,18 @@ impl Exchange<'_> {
         self.maker_adds(FOURTH, 8, FIFTH)?;
         let added = self.hand.open_slot(&self.image, 8, FIFTH)?;
         self.checks.check("we open the slot that a peer added after us", added == Ok(8))?;
+        self.screens("after a peer's addition to it")?;
         self.cryptsetup.change(self.image(), 5, THIRD, SIXTH)?;
         let (new, old) = (self.hand.open(&self.image, SIXTH)?, self.hand.open(&self.image, THIRD)?);
         self.checks.check("we open the slot that cryptsetup changed", new == Ok(5))?;
         self.checks.check("and no more with the old passphrase", old == Err(17))?;
+        self.screens("after cryptsetup's change")?;
         match self.maker {
             Maker::Qemu => self.qemu.remove(self.image(), FOURTH, 8)?,
             _ => self.cryptsetup.kill(self.image(), 8)?,
         }
         let removed = self.hand.open_slot(&self.image, 8, FIFTH)?;
-        self.checks.check("a slot that a peer removed is refused by 15", removed == Err(15))
+        self.checks.check("a slot that a peer removed is refused by 15", removed == Err(15))?;
+        self.screens("after a peer's removal")
     }
 }

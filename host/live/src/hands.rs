@@ -1,7 +1,8 @@
 //! Our side, by two hands: the library's calls, and the command-line tool.
 
+use crate::screens::{self, Shown};
 use crate::work::{load, output, random, salt, store, text, Folder, Kind, Outcome};
-use mivrozh::raw;
+use mivrozh::{raw, Drive, Refusal};
 use model::header::Header;
 use model::xts::SECTOR;
 use std::path::{Path, PathBuf};
@@ -19,6 +20,11 @@ pub trait Hand {
     fn revoke(&self, image: &Path, slot: u8) -> Outcome<()>;
     fn read(&self, image: &Path, passphrase: &str, first: u64, units: u64) -> Outcome<Vec<u8>>;
     fn write(&self, image: &Path, passphrase: &str, first: u64, plain: &[u8]) -> Outcome<()>;
+    /// The first screen: the enabled slots.
+    fn slots(&self, image: &Path) -> Outcome<Vec<u8>>;
+    /// The second screen.
+    fn details(&self, image: &Path) -> Outcome<Vec<Shown>>;
+    fn uuid(&self, image: &Path) -> Outcome<String>;
 }
 
 pub struct Library;
@@ -116,6 +122,24 @@ impl Hand for Library {
         accepted("write", raw::write(&mut bytes, &key, first, (plain.len() / SECTOR) as u64, plain))?;
         store(image, &bytes)
     }
+
+    fn slots(&self, image: &Path) -> Outcome<Vec<u8>> {
+        Drive::over(load(image)?).slots().map(|slots| slots.enabled().collect()).map_err(refused)
+    }
+
+    fn details(&self, image: &Path) -> Outcome<Vec<Shown>> {
+        let details = Drive::over(load(image)?).slot_details().map_err(refused)?;
+        Ok(details.iter().map(|(_, slot)| Shown::whole(slot.enabled, slot.count, slot.start, slot.stripes)).collect())
+    }
+
+    fn uuid(&self, image: &Path) -> Outcome<String> {
+        let header = Drive::over(load(image)?).header().map_err(refused)?;
+        Ok(header.uuid().escape_ascii().to_string())
+    }
+}
+
+fn refused(refusal: Refusal) -> String {
+    format!("the library refuses the header by {}", refusal.number())
 }
 
 /// The tool `mivrozh`, which stands beside this program.
@@ -144,11 +168,14 @@ impl<'a> Tool<'a> {
         }
     }
 
+    /// What an accepted command printed.
+    fn printed(&self, arguments: &[&str]) -> Outcome<String> {
+        let refused = |number| format!("mivrozh {} is refused by {number}", arguments.join(" "));
+        self.command(arguments)?.map_err(refused)
+    }
+
     fn accepted(&self, arguments: &[&str]) -> Outcome<()> {
-        match self.command(arguments)? {
-            Ok(_) => Ok(()),
-            Err(number) => Err(format!("mivrozh {} is refused by {number}", arguments.join(" "))),
-        }
+        self.printed(arguments).map(|_| ())
     }
 
     fn passphrase(&self, passphrase: &str) -> Outcome<String> {
@@ -157,6 +184,12 @@ impl<'a> Tool<'a> {
 
     fn new_passphrase(&self, passphrase: &str) -> Outcome<String> {
         Ok(text(&self.folder.file("our new passphrase", passphrase.as_bytes())?).to_string())
+    }
+
+    /// The slots that a command prints as JSON.
+    fn shown(&self, arguments: &[&str]) -> Outcome<Vec<Shown>> {
+        let said = self.printed(arguments)?;
+        screens::of_tool(&said).ok_or_else(|| format!("mivrozh slots printed no slots: {said}"))
     }
 
     /// The slot that `test` prints: the only number in its answer.
@@ -221,5 +254,17 @@ impl Hand for Tool<'_> {
         let plain = self.folder.file("plain for us", plain)?;
         let options = ["--first", &first, "--key-file", &file, "--in", text(&plain)];
         self.accepted(&[&["write"], &options[..], &[text(image)]].concat())
+    }
+
+    fn slots(&self, image: &Path) -> Outcome<Vec<u8>> {
+        self.shown(&["slots", "--json", text(image)]).map(|slots| screens::enabled(&slots))
+    }
+
+    fn details(&self, image: &Path) -> Outcome<Vec<Shown>> {
+        self.shown(&["slots", "--details", "--json", text(image)])
+    }
+
+    fn uuid(&self, image: &Path) -> Outcome<String> {
+        self.printed(&["uuid", text(image)]).map(|said| said.trim().to_owned())
     }
 }

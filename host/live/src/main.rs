@@ -8,8 +8,10 @@
 mod defaults;
 mod exchange;
 mod hands;
+mod json;
 mod peers;
 mod rebuild;
+mod screens;
 mod work;
 
 use exchange::{make, Exchange, Maker};

@@ -1,5 +1,6 @@
 //! cryptsetup and qemu-img as they are used on image files. Slots are counted as ours, from 1; theirs count from 0.
 
+use crate::screens::{self, Shown};
 use crate::work::{load, output, run, text, Folder, Kind, Outcome};
 use std::path::Path;
 
@@ -65,11 +66,18 @@ impl Cryptsetup<'_> {
         }
     }
 
+    /// The slots as luksDump shows them.
+    pub fn slots(&self, image: &Path) -> Outcome<Vec<Shown>> {
+        screens::of_luks_dump(&run("cryptsetup", &["luksDump", text(image)])?)
+    }
+
     /// The slots that luksDump calls enabled.
     pub fn enabled(&self, image: &Path) -> Outcome<Vec<u8>> {
-        let dump = run("cryptsetup", &["luksDump", text(image)])?;
-        let line = |k: u8| format!("Key Slot {}: ENABLED", k - 1);
-        Ok((1..=8).filter(|k| dump.lines().any(|l| l == line(*k))).collect())
+        self.slots(image).map(|slots| screens::enabled(&slots))
+    }
+
+    pub fn uuid(&self, image: &Path) -> Outcome<String> {
+        run("cryptsetup", &["luksUUID", text(image)]).map(|said| said.trim().to_owned())
     }
 
     pub fn volume_key(&self, image: &Path, passphrase: &str) -> Outcome<Vec<u8>> {
@@ -132,6 +140,11 @@ impl Qemu<'_> {
         let plain = self.folder.file("plain for qemu", plain)?;
         let from = ["convert", "-q", "-n", "--object", &secret, "-f", "raw"];
         run("qemu-img", &[&from[..], &["--target-image-opts", text(&plain), &opened]].concat()).map(|_| ())
+    }
+
+    /// The slots as qemu-img info shows them.
+    pub fn slots(&self, image: &Path) -> Outcome<Vec<Shown>> {
+        screens::of_qemu(&run("qemu-img", &["info", "-f", "luks", "--output=json", text(image)])?)
     }
 
     pub fn add(&self, image: &Path, known: &str, slot: u8, new: &str) -> Outcome<()> {

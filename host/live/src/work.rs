@@ -8,6 +8,9 @@ use std::io::Read;
 use std::path::{Path, PathBuf};
 use std::process::{Command, Output};
 
+/// How many slots a drive has.
+pub const SLOTS: usize = 8;
+
 /// A failure, as one sentence.
 pub type Outcome<T> = Result<T, String>;
 

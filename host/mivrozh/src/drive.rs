@@ -1,5 +1,5 @@
 //! The calls on a drive.
-use crate::{raw, Header, Profile, Refusal, Secret};
+use crate::{raw, Header, Profile, Refusal, Secret, SlotDetails, Slots};
 use std::fmt;
 
 /// A drive in an image that was lent: the header, the eight key areas and the payload.
@@ -117,19 +117,25 @@ impl<I: AsRef<[u8]>> Drive<I> {
         self.image.as_ref()
     }
 
-    /// What the header says, unchecked; nothing where the image is too short for one.
-    pub fn header(&self) -> Option<Header> {
+    /// What the header says, where it passes the engine's check.
+    pub fn header(&self) -> Result<Header, Refusal> {
         Header::of(self.image())
     }
 
     /// Checks the header as every call but format does first, and derives nothing.
     pub fn check(&self) -> Result<(), Refusal> {
-        // Slot 0 is refused right after the header's checks, so this opens nothing.
-        match self.open_slot(0, &Secret::zeroed(0)) {
-            Err(Refusal::BadSlot) => Ok(()),
-            Err(refusal) => Err(refusal),
-            Ok(opened) => unreachable!("slot 0 does not open, but {} did", opened.slot),
-        }
+        self.slots().map(|_| ())
+    }
+
+    /// Which key slots are enabled, and nothing else. No passphrase is needed.
+    pub fn slots(&self) -> Result<Slots, Refusal> {
+        Slots::of(self.image())
+    }
+
+    /// Which key slots are enabled, and the count, area start and stripes of each, disabled or not. No passphrase is
+    /// needed.
+    pub fn slot_details(&self) -> Result<SlotDetails, Refusal> {
+        SlotDetails::of(self.image())
     }
 
     /// Opens one slot.
@@ -144,7 +150,7 @@ impl<I: AsRef<[u8]>> Drive<I> {
 
     /// Reads and deciphers units of the payload; the buffer has 512 bytes for each.
     pub fn read(&self, key: &Secret, first: PayloadUnit, units: u64, buffer: &mut [u8]) -> Result<(), Refusal> {
-        answer(raw::read(self.image(), key.expose(), first.0, units, buffer))
+        Refusal::answer(raw::read(self.image(), key.expose(), first.0, units, buffer))
     }
 }
 
@@ -152,7 +158,7 @@ impl<I: AsRef<[u8]>> Drive<I> {
 impl<I: AsRef<[u8]> + AsMut<[u8]>> Drive<I> {
     /// Makes a new drive, with no passphrase yet: every key slot is free. The payload keeps its bytes.
     pub fn format(&mut self, input: &FormatInput) -> Result<(), Refusal> {
-        answer(raw::format(
+        Refusal::answer(raw::format(
             self.image.as_mut(),
             input.profile.number(),
             input.stripes,
@@ -166,23 +172,23 @@ impl<I: AsRef<[u8]> + AsMut<[u8]>> Drive<I> {
     /// Puts the master key under a passphrase into a free slot.
     pub fn add(&mut self, slot: u8, key: &Secret, input: &SlotInput) -> Result<(), Refusal> {
         let (image, passphrase) = (self.image.as_mut(), input.passphrase.expose());
-        answer(raw::add(image, slot, key.expose(), passphrase, input.salt, input.count, input.random))
+        Refusal::answer(raw::add(image, slot, key.expose(), passphrase, input.salt, input.count, input.random))
     }
 
     /// Opens slot `from`, adds its key to the free slot `to` under the new passphrase, and revokes `from`.
     pub fn change(&mut self, from: u8, old: &Secret, to: u8, input: &SlotInput, filler: &[u8]) -> Result<(), Refusal> {
         let (image, old, new) = (self.image.as_mut(), old.expose(), input.passphrase.expose());
-        answer(raw::change(image, from, old, to, new, input.salt, input.count, input.random, filler))
+        Refusal::answer(raw::change(image, from, old, to, new, input.salt, input.count, input.random, filler))
     }
 
     /// Frees a slot and overwrites its area with the filler, as long as [`Header::area_length`] says.
     pub fn revoke(&mut self, slot: u8, filler: &[u8]) -> Result<(), Refusal> {
-        answer(raw::revoke(self.image.as_mut(), slot, filler))
+        Refusal::answer(raw::revoke(self.image.as_mut(), slot, filler))
     }
 
     /// Enciphers and writes units of the payload; the buffer has 512 bytes for each.
     pub fn write(&mut self, key: &Secret, first: PayloadUnit, units: u64, buffer: &[u8]) -> Result<(), Refusal> {
-        answer(raw::write(self.image.as_mut(), key.expose(), first.0, units, buffer))
+        Refusal::answer(raw::write(self.image.as_mut(), key.expose(), first.0, units, buffer))
     }
 }
 
@@ -212,29 +218,10 @@ impl fmt::Debug for SlotInput<'_> {
     }
 }
 
-// A number that is no refusal of this version is never taken for an acceptance. The engine is linked with the binding
-// and has no such number.
-fn answer(number: u8) -> Result<(), Refusal> {
-    match (number, Refusal::from_number(number)) {
-        (0, _) => Ok(()),
-        (_, Some(refusal)) => Err(refusal),
-        (_, None) => panic!("the engine has no refusal {number}"),
-    }
-}
-
 // Lends a buffer of 66 bytes to an opening: slot, key length and the 64 key bytes. It is wiped.
 fn opened(open: impl FnOnce(&mut [u8; 66]) -> u8) -> Result<Opened, Refusal> {
     let mut buffer = Secret::zeroed(66);
-    answer(open(buffer.expose_mut().try_into().expect("66 bytes")))?;
+    Refusal::answer(open(buffer.expose_mut().try_into().expect("66 bytes")))?;
     let [slot, length, ref key @ ..] = *buffer.expose() else { unreachable!("66 bytes") };
     Ok(Opened { slot, key: Secret::from(&key[..usize::from(length)]) })
-}
-
-#[cfg(test)]
-mod tests {
-    #[test]
-    #[should_panic(expected = "no refusal 21")]
-    fn an_unknown_number_is_no_acceptance() {
-        let _ = super::answer(21);
-    }
 }

@@ -1,5 +1,9 @@
-//! The numbers of a header that a caller needs before a call: key length, payload start, and the key slots' records.
-use crate::{Hash, Profile};
+//! The numbers of a header that a caller needs before a call: key length, payload start, and the key slots' areas.
+//!
+//! Whether a header is one is the engine's judgement, and what is said of the slots its answer. Key length, payload
+//! start, UUID and names are returned by no call: the binding reads them itself.
+use crate::slots::{Slot, SlotDetails};
+use crate::{Hash, Profile, Refusal};
 
 /// Bytes of a sector and of a payload unit.
 pub const SECTOR: usize = 512;
@@ -12,11 +16,11 @@ pub const MAGIC: [u8; 6] = *b"LUKS\xba\xbe";
 /// Most stripes that a key slot may have.
 pub const MOST_STRIPES: u32 = 4000;
 
-const ENABLED: u32 = 0x00AC_71F3;
+const UUID: std::ops::Range<usize> = 168..208;
 const FIRST_RECORD: usize = 208;
 const RECORD: usize = 48;
 
-/// What a header says, as it stands there. Nothing is checked here: each call of the engine checks the header first.
+/// What a header says. There is one only of an image whose header passes the engine's check.
 #[derive(Clone, Copy, Debug, PartialEq, Eq)]
 #[non_exhaustive]
 pub struct Header {
@@ -24,71 +28,46 @@ pub struct Header {
     pub payload_start: u32,
     /// Length of the master key.
     pub key_bytes: u32,
-    slots: [Slot; SLOTS as usize],
-}
-
-/// The record of one key slot.
-#[derive(Clone, Copy, Debug, Default, PartialEq, Eq)]
-#[non_exhaustive]
-pub struct Slot {
-    pub enabled: bool,
-    /// Iterations of the derivation.
-    pub count: u32,
-    /// Where the area starts, in sectors of the image.
-    pub start: u32,
-    pub stripes: u32,
+    uuid: [u8; UUID.end - UUID.start],
+    slots: SlotDetails,
 }
 
 impl Header {
-    /// Reads the header of an image that is long enough to hold one.
-    pub fn of(image: &[u8]) -> Option<Header> {
-        let bytes = image.get(..HEADER)?;
-        let mut slots = [Slot::default(); SLOTS as usize];
-        for (number, slot) in (1..).zip(&mut slots) {
-            let record = &bytes[record_range(number)];
-            *slot = Slot {
-                enabled: number_at(record, 0) == ENABLED,
-                count: number_at(record, 4),
-                start: number_at(record, 40),
-                stripes: number_at(record, 44),
-            };
-        }
-        Some(Header { payload_start: number_at(bytes, 104), key_bytes: number_at(bytes, 108), slots })
+    /// Has the engine check the header of an image and say what its slots are, and reads the rest.
+    pub fn of(image: &[u8]) -> Result<Header, Refusal> {
+        let slots = SlotDetails::of(image)?;
+        let uuid = image[UUID].try_into().expect("a range of its length");
+        Ok(Header { payload_start: number_at(image, 104), key_bytes: number_at(image, 108), uuid, slots })
     }
 
-    /// The record of a slot, 1 to 8.
+    /// The slots, as the engine shows them.
+    pub fn slots(&self) -> &SlotDetails {
+        &self.slots
+    }
+
+    /// A slot, 1 to 8.
     pub fn slot(&self, number: u8) -> Option<&Slot> {
-        self.slots.get(usize::from(number).checked_sub(1)?)
+        self.slots.slot(number)
     }
 
-    /// The first slot that is not enabled.
-    pub fn free_slot(&self) -> Option<u8> {
-        (1..=SLOTS).find(|&number| self.slot(number).is_some_and(|slot| !slot.enabled))
+    /// The UUID up to its first zero byte. It need not be text: no check looks at it.
+    pub fn uuid(&self) -> &[u8] {
+        text(&self.uuid)
     }
 
-    /// The slots that are enabled, in rising order.
-    pub fn enabled_slots(&self) -> impl Iterator<Item = u8> + '_ {
-        (1..=SLOTS).filter(|&number| self.slot(number).is_some_and(|slot| slot.enabled))
-    }
-
-    /// How many random bytes an addition to the slot needs; 0 where the engine refuses slot or header anyway.
+    /// How many random bytes an addition to the slot needs; 0 where there is no such slot.
     pub fn random_length(&self, slot: u8) -> usize {
         self.area_length(slot).saturating_sub(self.key_bytes as usize)
     }
 
-    /// How many bytes the slot's area has, and so how much filler its revocation needs; 0 where the engine refuses slot
-    /// or header anyway.
+    /// How many bytes the slot's area has, and so how much filler its revocation needs; 0 where there is no such slot.
     pub fn area_length(&self, slot: u8) -> usize {
-        match self.slot(slot) {
-            Some(slot) if self.key_bytes <= 64 && (1..=MOST_STRIPES).contains(&slot.stripes) => {
-                slot.stripes as usize * self.key_bytes as usize
-            }
-            _ => 0,
-        }
+        self.slot(slot).map_or(0, |slot| slot.stripes as usize * self.key_bytes as usize)
     }
 }
 
-/// The names in a header as they stand there, each up to its first zero byte, and the length of the master key.
+/// The names in a header as they stand there, each up to its first zero byte, and the length of the master key. Nothing
+/// is checked: so it can be said what a header has that the engine refuses.
 #[derive(Clone, Copy, Debug, PartialEq, Eq)]
 #[non_exhaustive]
 pub struct Names<'a> {
@@ -102,8 +81,8 @@ impl Names<'_> {
     /// Reads the names of an image that is long enough to hold a header.
     pub fn of(image: &[u8]) -> Option<Names<'_>> {
         let bytes = image.get(..HEADER)?;
-        let text = |at: usize| bytes[at..at + 32].split(|&byte| byte == 0).next().unwrap_or_default();
-        Some(Names { cipher: text(8), mode: text(40), hash: text(72), key_bytes: number_at(bytes, 108) })
+        let name = |at: usize| text(&bytes[at..at + 32]);
+        Some(Names { cipher: name(8), mode: name(40), hash: name(72), key_bytes: number_at(bytes, 108) })
     }
 
     /// The profile that has these names and this key length; nothing where there is none, which the engine refuses (4).
@@ -118,6 +97,11 @@ impl Names<'_> {
 pub fn record_range(slot: u8) -> std::ops::Range<usize> {
     let at = FIRST_RECORD + RECORD * (usize::from(slot) - 1);
     at..at + RECORD
+}
+
+// What stands before the first zero byte.
+fn text(field: &[u8]) -> &[u8] {
+    field.split(|&byte| byte == 0).next().unwrap_or_default()
 }
 
 fn number_at(bytes: &[u8], at: usize) -> u32 {

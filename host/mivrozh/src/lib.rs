@@ -14,6 +14,7 @@
 //! let uuid = "6a2b1f0e-3c4d-4e5f-8a9b-0c1d2e3f4a5b";
 //! drive.format(&FormatInput::new(Profile::Key512, &key, &salt, 1000, uuid).stripes(1))?;
 //! drive.add(1, &key, &SlotInput::new(&passphrase, &salt, 1000, &random))?;
+//! assert!(drive.slots()?.enabled().eq([1]));
 //! let opened = drive.open(&passphrase)?;
 //! assert_eq!(opened.slot, 1);
 //! drive.write(&opened.key, PayloadUnit(0), 1, &[1; 512])?;
@@ -31,6 +32,7 @@ mod profile;
 pub mod raw;
 mod refusal;
 mod secret;
+mod slots;
 
 pub use drive::{Drive, FormatInput, Opened, PayloadUnit, SlotInput};
 pub use header::Header;
@@ -38,6 +40,7 @@ pub use memory::{lock_stack, LOCKED_STACK};
 pub use profile::{Hash, Profile};
 pub use refusal::Refusal;
 pub use secret::Secret;
+pub use slots::{Slot, SlotDetails, Slots};
 
 // The example in README.md compiles.
 #[cfg(doctest)]

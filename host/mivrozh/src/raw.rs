@@ -1,4 +1,4 @@
-//! The engine's eight C functions as safe functions, and the wiping of memory. The unsafe code of the binding is here
+//! The engine's ten C functions as safe functions, and the wiping of memory. The unsafe code of the binding is here
 //! and in the module `memory`.
 //!
 //! Each function mirrors the one of `include/mivrozh.h` that it is named after: it returns 0, or the number of the
@@ -62,6 +62,15 @@ extern "C" {
         filler_len: usize,
     ) -> u8;
     fn mivrozh_revoke(image: *mut u8, image_len: usize, slot: u8, filler: *const u8, filler_len: usize) -> u8;
+    fn mivrozh_slots(image: *const u8, image_len: usize, enabled: *mut u8) -> u8;
+    fn mivrozh_slot_details(
+        image: *const u8,
+        image_len: usize,
+        enabled: *mut u8,
+        counts: *mut u32,
+        starts: *mut u32,
+        stripes: *mut u32,
+    ) -> u8;
     fn mivrozh_read(
         image: *const u8,
         image_len: usize,
@@ -186,6 +195,31 @@ pub fn revoke(image: &mut [u8], slot: u8, filler: &[u8]) -> u8 {
     then_wipe(|| unsafe { mivrozh_revoke(image.as_mut_ptr(), image.len(), slot, filler.as_ptr(), filler.len()) })
 }
 
+pub fn slots(image: &[u8], enabled: &mut [u8; 8]) -> u8 {
+    // SAFETY: live, separate references, as said above; `enabled` has the 8 entries that are written.
+    then_wipe(|| unsafe { mivrozh_slots(image.as_ptr(), image.len(), enabled.as_mut_ptr()) })
+}
+
+pub fn slot_details(
+    image: &[u8],
+    enabled: &mut [u8; 8],
+    counts: &mut [u32; 8],
+    starts: &mut [u32; 8],
+    stripes: &mut [u32; 8],
+) -> u8 {
+    // SAFETY: live, separate references, as said above; each array has the 8 entries that are written.
+    then_wipe(|| unsafe {
+        mivrozh_slot_details(
+            image.as_ptr(),
+            image.len(),
+            enabled.as_mut_ptr(),
+            counts.as_mut_ptr(),
+            starts.as_mut_ptr(),
+            stripes.as_mut_ptr(),
+        )
+    })
+}
+
 pub fn read(image: &[u8], key: &[u8], first: u64, units: u64, buffer: &mut [u8]) -> u8 {
     // SAFETY: live, separate references with their lengths, as said above.
     then_wipe(|| unsafe {
@@ -219,8 +253,8 @@ pub fn write(image: &mut [u8], key: &[u8], first: u64, units: u64, buffer: &[u8]
 }
 
 /// A bound on the stack of a call, in bytes; `include/mivrozh.h` has the same. Measured by `tests/stack.rs` at 4,000
-/// stripes and a key of 64 bytes: format 4,947, add 34,119, open by number 42,775, open 42,871, change 42,983, revoke
-/// 682, read 33,607, write 33,607.
+/// stripes and a key of 64 bytes, the larger figure of both hashes: format 5,263, add 34,279, open by number 42,791,
+/// open 42,887, change 43,047, revoke 1,006, slots 1,006, slot details 1,358, read 33,607, write 33,607.
 pub const MOST_STACK: usize = 56 * 1024;
 
 /// How many bytes of stack are wiped after each call: as many, and 8 KiB for the frames around it.

@@ -65,6 +65,16 @@ impl Refusal {
         Refusal::ALL.get(usize::from(number).checked_sub(1)?).copied()
     }
 
+    // What a call's number says. A number that is no refusal of this version is never taken for an acceptance. The
+    // engine is linked with the binding and has no such number.
+    pub(crate) fn answer(number: u8) -> Result<(), Refusal> {
+        match (number, Refusal::from_number(number)) {
+            (0, _) => Ok(()),
+            (_, Some(refusal)) => Err(refusal),
+            (_, None) => panic!("the engine has no refusal {number}"),
+        }
+    }
+
     /// What is wrong, and what to do about it.
     pub fn sentence(self) -> &'static str {
         match self {
@@ -128,3 +138,12 @@ impl fmt::Display for Refusal {
 }
 
 impl std::error::Error for Refusal {}
+
+#[cfg(test)]
+mod tests {
+    #[test]
+    #[should_panic(expected = "no refusal 21")]
+    fn an_unknown_number_is_no_acceptance() {
+        let _ = super::Refusal::answer(21);
+    }
+}

@@ -12,6 +12,15 @@ fn the_example_runs() {
     assert!(said.ends_with("all as expected\n"), "{said}");
 }
 
+#[test]
+fn the_screens_fill_their_arrays_and_nothing_else() {
+    for level in ["-O0", "-O2"] {
+        let program = compile("gcc", &[level], &[&of_tests("screens.c")], &format!("screens{level}"));
+        let said = run(&mut Command::new(program));
+        assert!(said.ends_with("all as expected\n"), "{level}: {said}");
+    }
+}
+
 // Memory that it gives back is zeros, and no piece of the key stays on its stack. It is linked with -z now: else the
 // dynamic linker saves registers, with what the C library's functions left in them, to the stack.
 #[test]
@@ -59,8 +68,11 @@ fn the_header_is_for_cpp_too() {
     let source = Path::new(env!("CARGO_TARGET_TMPDIR")).join("header.cpp");
     let text = "#include <mivrozh.h>\n\
         int main() {\n\
-            uint8_t opened[66], number = mivrozh_open(nullptr, 0, nullptr, 0, opened);\n\
+            uint8_t opened[66], number = mivrozh_open(nullptr, 0, nullptr, 0, opened), enabled[8];\n\
+            uint32_t counts[8], starts[8], stripes[8];\n\
             mivrozh_wipe_stack();\n\
+            if (mivrozh_slots(nullptr, 0, enabled) != 1) return 1;\n\
+            if (mivrozh_slot_details(nullptr, 0, enabled, counts, starts, stripes) != 1) return 1;\n\
             return number == 1 ? 0 : 1;\n\
         }\n";
     std::fs::write(&source, text).expect("a file in the target folder");

@@ -188,6 +188,33 @@ static void revoke(unsigned slot) {
     expect("revoke", number, 0);
 }
 
+/*
+ * The screens, each slot's state and numbers. Everything else in the image that is no part of the header's check is marked: the key's
+ * checksum, salts, the UUID, areas and payload. Nothing of it comes into the answers.
+ */
+static void show(unsigned one, unsigned other) {
+    uint8_t enabled[8];
+    uint32_t counts[8], starts[8], many[8];
+    unsigned number;
+    (void)VALGRIND_MAKE_MEM_UNDEFINED(image + 112, 52);
+    (void)VALGRIND_MAKE_MEM_UNDEFINED(image + 168, 40);
+    for (unsigned slot = 1; slot <= 8; slot++) (void)VALGRIND_MAKE_MEM_UNDEFINED(image + 208 + 48 * (slot - 1) + 8, 32);
+    (void)VALGRIND_MAKE_MEM_UNDEFINED(image + 592, IMAGE - 592);
+    number = mivrozh_slots(image, IMAGE, enabled);
+    expect("slots", number, 0);
+    must(has_marks(enabled, 8, 0), "which slots are enabled comes from nothing that is marked");
+    for (unsigned slot = 1; slot <= 8; slot++) must(enabled[slot - 1] == (slot == one || slot == other), "the enabled slots");
+    number = mivrozh_slot_details(image, IMAGE, enabled, counts, starts, many);
+    expect("slots, with details", number, 0);
+    must(has_marks(enabled, 8, 0) && has_marks(counts, 32, 0) && has_marks(starts, 32, 0) && has_marks(many, 32, 0), "nor do the details");
+    declare_public(image, IMAGE);
+    for (unsigned slot = 1; slot <= 8; slot++) {
+        int is_enabled = slot == one || slot == other;
+        must(enabled[slot - 1] == is_enabled && counts[slot - 1] == (is_enabled ? COUNT : 0), "states and counts");
+        must(image + (size_t)starts[slot - 1] * UNIT == area(slot) && many[slot - 1] == stripes, "starts and stripes");
+    }
+}
+
 static void write_units(uint64_t first, size_t units) {
     size_t many = units * UNIT;
     unsigned number = mivrozh_write(image, IMAGE, secret(lent_key, key, length), length, first, units, secret(buffer, plain, many), many);
@@ -224,18 +251,20 @@ static void life_of_a_drive(unsigned which_profile, unsigned number_of_stripes) 
     format();
     add(1, FIRST);
     add(2, SECOND);
+    show(1, 2);
     open_slot(2, SECOND);
     open_any(SECOND, 2);
     open_refused(THIRD);
     change(1, FIRST, 3, THIRD);
     revoke(2);
+    show(3, 3);
     open_any(THIRD, 3);
     for (size_t run = 0; run < sizeof RUNS / sizeof RUNS[0]; run++) {
         write_units(run, RUNS[run]);
         read_units(run, RUNS[run]);
     }
     read_refused();
-    /* One for each call but revoke, and for the two openings that try two slots one more. */
+    /* One for each call but revoke and the screens, and for the two openings that try two slots one more. */
     must(checksums == 19, "every checksum was seen");
 }
 

@@ -43,7 +43,8 @@ fn the_life_of_a_drive() {
         let header = drive.header().expect("a header");
         assert_eq!(header.key_bytes as usize, profile.key_bytes());
         assert_eq!(Names::of(drive.image()).and_then(|names| names.profile()), Some(profile));
-        assert_eq!(header.free_slot(), Some(2));
+        assert_eq!(header.uuid(), UUID.as_bytes());
+        assert_eq!(drive.slots().expect("the slots").free(), Some(2));
         let (random, filler) = (vec![6; header.random_length(7)], vec![7; header.area_length(1)]);
 
         let opened = drive.open(&passphrase("one")).expect("slot 1 opens");
@@ -54,7 +55,7 @@ fn the_life_of_a_drive() {
         assert_eq!(drive.open_slot(3, &passphrase("three")).expect("slot 3 opens").key.expose(), key.expose());
         drive.revoke(1, &filler).expect("slot 3 is in use too");
         assert_eq!(drive.open(&passphrase("one")).err(), Some(Refusal::WrongKey));
-        assert_eq!(drive.header().expect("a header").enabled_slots().collect::<Vec<_>>(), [3]);
+        assert!(drive.slots().expect("the slots").enabled().eq([3]));
 
         let (plain, mut back) = ([9; 1024], [0; 1024]);
         drive.write(&key, PayloadUnit(1), 2, &plain).expect("two units");
@@ -62,6 +63,68 @@ fn the_life_of_a_drive() {
         assert_eq!(plain, back);
         assert_eq!(drive.check(), Ok(()));
     }
+}
+
+// Both screens, and the lengths that go with them, of a drive with the slots 1 and 7.
+#[test]
+fn the_slots_are_shown() {
+    for &profile in Profile::ALL {
+        let (mut image, key) = (image(profile), key(profile));
+        let mut drive = Drive::over(&mut image);
+        let random = vec![6; (STRIPES as usize - 1) * profile.key_bytes()];
+        drive.add(7, &key, &SlotInput::new(&passphrase("two"), &SALT, 1007, &random)).expect("slot 7 is free");
+        let slots = drive.slots().expect("the slots");
+        assert!(slots.enabled().eq([1, 7]));
+        assert!((0..=255).filter(|&slot| slots.is_enabled(slot)).eq([1, 7]));
+        assert_eq!(slots.free(), Some(2));
+
+        let (details, header) = (drive.slot_details().expect("the slots"), drive.header().expect("a header"));
+        let shown = details.iter().map(|(number, slot)| (number, slot.enabled, slot.count, slot.start, slot.stripes));
+        let count = |slot| if slot == 1 { COUNT } else { 1007 * u32::from(slot == 7) };
+        assert!(shown.eq((1..=8).map(|k| (k, slots.is_enabled(k), count(k), 8 * u32::from(k), STRIPES))));
+        assert_eq!(*header.slots(), details);
+        for slot in 1..=8 {
+            assert_eq!(details.slot(slot), header.slot(slot));
+            assert_eq!(header.area_length(slot), STRIPES as usize * profile.key_bytes());
+            assert_eq!(header.random_length(slot), random.len());
+        }
+        for slot in [0, 9, 255] {
+            assert_eq!(details.slot(slot), None);
+            assert_eq!((header.area_length(slot), header.random_length(slot)), (0, 0));
+        }
+    }
+}
+
+#[test]
+fn no_slot_is_free_where_all_are_enabled() {
+    let mut image = image(Profile::Key256);
+    for slot in 2..=8 {
+        let random = [5; (STRIPES as usize - 1) * 32];
+        let mut drive = Drive::over(&mut image);
+        assert_eq!(drive.slots().expect("the slots").free(), Some(slot));
+        drive.add(slot, &key(Profile::Key256), &slot_input(&passphrase("more"), &random)).expect("a free slot");
+    }
+    let slots = Drive::over(&image[..]).slots().expect("the slots");
+    assert!(slots.enabled().eq(1..=8));
+    assert_eq!(slots.free(), None);
+}
+
+// A drive of another maker may have a count in a disabled slot, and anything for a UUID.
+#[test]
+fn a_header_is_shown_as_it_is() {
+    let mut image = image(Profile::Key512);
+    image[208 + 48..][..4].copy_from_slice(&0xDEADu32.to_be_bytes());
+    image[208 + 48 + 4..][..4].copy_from_slice(&123_456u32.to_be_bytes());
+    image[168..208].copy_from_slice(&[0xFF; 40]);
+    let header = Drive::over(&image[..]).header().expect("a header");
+    let second = header.slot(2).expect("slot 2");
+    assert_eq!((second.enabled, second.count, second.start, second.stripes), (false, 123_456, 16, STRIPES));
+    assert!(Drive::over(&image[..]).slots().expect("the slots").enabled().eq([1]));
+    assert_eq!(header.uuid(), [0xFF; 40]);
+    image[170] = 0;
+    assert_eq!(Drive::over(&image[..]).header().expect("a header").uuid(), [0xFF; 2]);
+    image[168] = 0;
+    assert_eq!(Drive::over(&image[..]).header().expect("a header").uuid(), []);
 }
 
 #[test]
@@ -115,12 +178,22 @@ fn the_hash_is_the_headers() {
 fn refusals() {
     let (key, one) = (key(Profile::Key512), passphrase("one"));
     let short = Secret::zeroed(32);
+    // Every call but format refuses a damaged header, and so do the screens and what stands on them.
     let damaged = |at: usize, bytes: &[u8]| {
         let mut image = image(Profile::Key512);
         image[at..at + bytes.len()].copy_from_slice(bytes);
-        Drive::over(&mut image).open(&one).err()
+        let drive = Drive::over(&image[..]);
+        let refusal = drive.open(&one).err();
+        assert_eq!(drive.check().err(), refusal);
+        assert_eq!(drive.slots().err(), refusal);
+        assert_eq!(drive.slot_details().err(), refusal);
+        assert_eq!(drive.header().err(), refusal);
+        refusal
     };
     assert_eq!(Drive::over([]).check(), Err(Refusal::ImageSize));
+    assert_eq!(Drive::over([]).slots(), Err(Refusal::ImageSize));
+    assert_eq!(Drive::over([]).slot_details(), Err(Refusal::ImageSize));
+    assert_eq!(Drive::over([]).header(), Err(Refusal::ImageSize));
     assert_eq!(damaged(0, b"S"), Some(Refusal::Magic));
     assert_eq!(damaged(7, &[2]), Some(Refusal::Version));
     assert_eq!(damaged(72, b"md5\0"), Some(Refusal::NoProfile));
@@ -172,7 +245,7 @@ fn a_drive_stands_over_any_bytes() {
     Drive::over(&mut image).write(&key, PayloadUnit(0), 1, &plain).expect("a unit");
     let lent = Drive::over(&image[..]);
     assert_eq!(lent.check(), Ok(()));
-    assert_eq!(lent.header().expect("a header").enabled_slots().collect::<Vec<_>>(), [1]);
+    assert!(lent.slots().expect("the slots").enabled().eq([1]));
     assert_eq!(lent.open(&passphrase("one")).expect("slot 1 opens").slot, 1);
     let opened = lent.open_slot(1, &passphrase("one")).expect("slot 1 opens");
     let mut back = [0; 512];

@@ -58,6 +58,8 @@ extern "C" {
         fl: usize,
     ) -> u8;
     fn mivrozh_revoke(i: Out, il: usize, at: u8, f: In, fl: usize) -> u8;
+    fn mivrozh_slots(i: In, il: usize, enabled: Out) -> u8;
+    fn mivrozh_slot_details(i: In, il: usize, enabled: Out, c: *mut u32, starts: *mut u32, n: *mut u32) -> u8;
     fn mivrozh_read(i: In, il: usize, k: In, kl: usize, first: u64, units: u64, b: Out, bl: usize) -> u8;
     fn mivrozh_write(i: Out, il: usize, k: In, kl: usize, first: u64, units: u64, b: In, bl: usize) -> u8;
 
@@ -81,12 +83,24 @@ enum Call {
     Open,
     Change,
     Revoke,
+    Slots,
+    SlotDetails,
     Read,
     Write,
 }
 
-const CALLS: [Call; 8] =
-    [Call::Format, Call::Add, Call::OpenSlot, Call::Open, Call::Change, Call::Revoke, Call::Read, Call::Write];
+const CALLS: [Call; 10] = [
+    Call::Format,
+    Call::Add,
+    Call::OpenSlot,
+    Call::Open,
+    Call::Change,
+    Call::Revoke,
+    Call::Slots,
+    Call::SlotDetails,
+    Call::Read,
+    Call::Write,
+];
 // The profiles with keys of `LENGTH` bytes, one of each hash.
 const PROFILES: [u8; 2] = [2, 4];
 // The calls that have a key or derive one.
@@ -104,6 +118,9 @@ struct Scene {
     filler: Vec<u8>,
     buffer: Vec<u8>,
     opened: Box<[u8; 66]>,
+    enabled: Box<[u8; 8]>,
+    // Counts, starts and stripes.
+    details: Box<[[u32; 8]; 3]>,
 }
 
 impl Scene {
@@ -119,6 +136,8 @@ impl Scene {
             filler: bytes(6, STRIPES as usize * LENGTH),
             buffer: bytes(7, UNITS * 512),
             opened: Box::new([0; 66]),
+            enabled: Box::new([0; 8]),
+            details: Box::new([[0; 8]; 3]),
         };
         assert_eq!(scene.bound(Call::Format), 0);
         let Scene { image, key, first, last, salt, random, .. } = &mut scene;
@@ -137,7 +156,8 @@ impl Scene {
 
     // The call through the binding.
     fn bound(&mut self, call: Call) -> u8 {
-        let Scene { profile, image, key, first, last, salt, random, filler, buffer, opened } = self;
+        let Scene { profile, image, key, first, last, salt, random, filler, buffer, opened, enabled, details } = self;
+        let [counts, starts, stripes] = &mut **details;
         let units = UNITS as u64;
         match call {
             Call::Format => raw::format(image, *profile, STRIPES, key, salt, COUNT, UUID),
@@ -146,6 +166,8 @@ impl Scene {
             Call::Open => raw::open(image, last, opened),
             Call::Change => raw::change(image, 8, last, 3, first, salt, COUNT, random, filler),
             Call::Revoke => raw::revoke(image, 1, filler),
+            Call::Slots => raw::slots(image, enabled),
+            Call::SlotDetails => raw::slot_details(image, enabled, counts, starts, stripes),
             Call::Read => raw::read(image, key, 0, units, buffer),
             Call::Write => raw::write(image, key, 0, units, buffer),
         }
@@ -154,7 +176,8 @@ impl Scene {
     // The same call without the binding.
     #[rustfmt::skip]
     fn bare(&mut self, call: Call) -> u8 {
-        let Scene { profile, image, key, first, last, salt, random, filler, buffer, opened } = self;
+        let Scene { profile, image, key, first, last, salt, random, filler, buffer, opened, enabled, details } = self;
+        let (e, d) = (enabled.as_mut_ptr(), details.each_mut().map(|array| array.as_mut_ptr()));
         let (i, il, units) = (image.as_mut_ptr(), image.len(), UNITS as u64);
         let (k, kl, s, r, rl) = (key.as_ptr(), key.len(), salt.as_ptr(), random.as_ptr(), random.len());
         let (p, pl, f, fl) = (last.as_ptr(), last.len(), filler.as_ptr(), filler.len());
@@ -167,6 +190,8 @@ impl Scene {
                 Call::Open => mivrozh_open(i, il, p, pl, opened.as_mut_ptr()),
                 Call::Change => mivrozh_change(i, il, 8, p, pl, 3, first.as_ptr(), first.len(), s, COUNT, r, rl, f, fl),
                 Call::Revoke => mivrozh_revoke(i, il, 1, f, fl),
+                Call::Slots => mivrozh_slots(i, il, e),
+                Call::SlotDetails => mivrozh_slot_details(i, il, e, d[0], d[1], d[2]),
                 Call::Read => mivrozh_read(i, il, k, kl, 0, units, buffer.as_mut_ptr(), buffer.len()),
                 Call::Write => mivrozh_write(i, il, k, kl, 0, units, buffer.as_ptr(), buffer.len()),
             }

@@ -8,6 +8,7 @@ pub mod calls;
 pub mod hash;
 pub mod header;
 pub mod kdf;
+pub mod screens;
 pub mod sha1;
 pub mod sha256;
 pub mod slots;

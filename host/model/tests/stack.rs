@@ -5,7 +5,7 @@ use mivrozh::raw;
 
 const STACK: usize = raw::WIPED_STACK + 16 * 1024;
 
-fn calls(profile: u8, image: &mut [u8], numbers: &mut [u8; 8]) {
+fn calls(profile: u8, image: &mut [u8], numbers: &mut [u8; 10]) {
     let (key, salt, stripes, filler) = ([5; 64], [6; 32], [7; 64], [8; 128]);
     let (mut opened, mut buffer) = ([0; 66], [0; 512]);
     numbers[0] = raw::format(image, profile, 2, &key, &salt, 1000, &[b'u'; 36]);
@@ -17,13 +17,16 @@ fn calls(profile: u8, image: &mut [u8], numbers: &mut [u8; 8]) {
     numbers[6] = raw::read(image, &key, 0, 1, &mut buffer);
     raw::add(image, 3, &key, b"third", &salt, 1000, &stripes);
     numbers[7] = raw::revoke(image, 3, &filler);
+    let (mut enabled, [mut counts, mut starts, mut stripes]) = ([0; 8], [[0; 8]; 3]);
+    numbers[8] = raw::slots(image, &mut enabled);
+    numbers[9] = raw::slot_details(image, &mut enabled, &mut counts, &mut starts, &mut stripes);
 }
 
 /// With the profiles of 64-byte keys, one of each hash.
 #[test]
 fn every_call_runs_in_little_more_stack_than_is_wiped() {
     for profile in [2, 4] {
-        let (mut image, mut numbers) = (vec![0; 66 * 512], [255; 8]);
+        let (mut image, mut numbers) = (vec![0; 66 * 512], [255; 10]);
         std::thread::scope(|scope| {
             let thread = std::thread::Builder::new().stack_size(STACK);
             thread
@@ -32,6 +35,6 @@ fn every_call_runs_in_little_more_stack_than_is_wiped() {
                 .join()
                 .expect("it ends");
         });
-        assert_eq!(numbers, [0; 8], "profile {profile}");
+        assert_eq!(numbers, [0; 10], "profile {profile}");
     }
 }

@@ -163,3 +163,13 @@ pub fn changed_sectors(before: &[u8], after: &[u8]) -> Vec<usize> {
 pub fn area(slot: usize) -> std::ops::Range<usize> {
     8 * slot..8 * slot + AREA_SECTORS
 }
+
+/// The library of this C source beside the tests, to be preloaded into the tool.
+pub fn preloaded(source: &str) -> PathBuf {
+    let library = PathBuf::from(env!("CARGO_TARGET_TMPDIR")).join(format!("{source}-{}.so", std::process::id()));
+    let mut gcc = Command::new("gcc");
+    gcc.args(["-Wall", "-Wextra", "-Werror", "-O1", "-fPIC", "-shared", "-o"]).arg(&library);
+    gcc.arg(Path::new(env!("CARGO_MANIFEST_DIR")).join("tests").join(source));
+    assert!(gcc.status().expect("gcc runs").success());
+    library
+}

@@ -1,7 +1,8 @@
 //! One call, made to the library and to the model, and everything compared: number, answer, image, lent buffers and
-//! the bytes around them. Counts what was called and refused.
+//! the bytes around them; then both screens of the image. Counts what was called, shown and refused.
 
 use crate::random::Random;
+use crate::screens;
 use mivrozh::raw;
 use model::calls::KINDS;
 use model::header::{Header, PROFILES};
@@ -43,15 +44,18 @@ pub struct Both {
     pub numbers: [[u64; 21]; 8],
     /// Accepted calls, by the profile that the drive has afterwards.
     pub accepted: [[u64; 8]; PROFILES.len()],
+    /// Images shown on both screens, by the number that these gave.
+    pub shown: [u64; 7],
 }
 
 impl Both {
     pub fn new(seed: u64) -> Both {
         let random = Random::new(seed ^ 0x6c656e74);
-        Both { model: Model::default(), random, calls: [0; 8], numbers: [[0; 21]; 8], accepted: Default::default() }
+        let (model, accepted) = (Model::default(), Default::default());
+        Both { model, random, calls: [0; 8], numbers: [[0; 21]; 8], accepted, shown: [0; 7] }
     }
 
-    /// Makes the call to both, compares, and leaves the image as the call does.
+    /// Makes the call to both, compares, and leaves the image as the call does. Then shows it on the screens of both.
     pub fn run(&mut self, image: &mut Vec<u8>, call: &Call) -> Result<u8, String> {
         let expected = self.model.step(image, call);
         let before = call.clone();
@@ -73,7 +77,15 @@ impl Both {
             let profile = Header::read(image).profile().ok_or("a call is accepted on a drive of no profile")?;
             self.accepted[profile.number as usize - 1][kind] += 1;
         }
+        self.show(image).map_err(|e| format!("{e}\nafter the call: {}", shown(call)))?;
         Ok(found.number)
+    }
+
+    /// Shows the image on both screens of both, compares, and gives the number.
+    pub fn show(&mut self, image: &[u8]) -> Result<u8, String> {
+        let number = screens::compare(&mut self.random, image)?;
+        self.shown[number as usize] += 1;
+        Ok(number)
     }
 
     fn library(&mut self, image: &[u8], call: &Call) -> (Outcome, bool) {

@@ -1,6 +1,6 @@
 //! Holds the library against the independent model: every set of checks that can fail together, every way of damage,
-//! and seeded random lists of calls. Ends with a failure at the first difference, or if a refusal number was not
-//! reached.
+//! and seeded random lists of calls; after each call, both screens of the image. Ends with a failure at the first
+//! difference, or if a refusal number was not reached.
 //!
 //!     lists [--calls N] [--seed S] [--profiles P]
 //!
@@ -11,6 +11,7 @@ mod both;
 mod damage;
 mod drives;
 mod random;
+mod screens;
 mod sets;
 mod walks;
 
@@ -56,6 +57,13 @@ fn run(options: &Options, both: &mut Both) -> Result<(), String> {
     }
     println!("ways of damage, before each call: {}", sets::ways(both, &mut random)?);
     println!("calls on drives of the figures: {}", sets::figures(both, &mut random)?);
+    let [same, first, neither] = sets::agreements(both, &mut random)?;
+    println!(
+        "pairs of drives with the same screens: {same}, with the same first one: {first}, with neither: {neither}"
+    );
+    if same == 0 || first == 0 || neither == 0 {
+        return Err("a kind of pair was not met".into());
+    }
     let (mut made, mut lists) = (0, 0);
     while made < options.calls {
         lists += 1;
@@ -66,8 +74,8 @@ fn run(options: &Options, both: &mut Both) -> Result<(), String> {
     Ok(())
 }
 
-/// The tables of calls by kind and number, and of accepted calls by kind and profile; false if a number of 0 to 20 was
-/// never given, or a call never accepted on a profile.
+/// The tables of calls by kind and number, of accepted calls by kind and profile, and of images shown; false if a
+/// number of 0 to 20 was never given, a call never accepted on a profile, or a number of 0 to 6 never by the screens.
 fn table(both: &Both) -> bool {
     println!("number   {}     all", KINDS.map(|kind| format!("{kind:>10}")).concat());
     let mut complete = true;
@@ -85,7 +93,8 @@ fn table(both: &Both) -> bool {
         println!("{:6}   {}{all:8}", profile.number, row.map(|n| format!("{n:10}")).concat());
         complete &= row.iter().all(|n| *n > 0);
     }
-    complete
+    println!("images on both screens, by number 0 to 6: {}", both.shown.map(|n| n.to_string()).join(", "));
+    complete && both.shown.iter().all(|n| *n > 0)
 }
 
 fn main() -> ExitCode {
@@ -104,10 +113,13 @@ fn main() -> ExitCode {
         return ExitCode::FAILURE;
     }
     if !table(&both) {
-        println!("FAILED: a refusal number was not reached, or a call was never accepted on a profile");
+        println!(
+            "FAILED: a refusal number was not reached, by calls or screens, or a call was never accepted on a profile"
+        );
         return ExitCode::FAILURE;
     }
     let calls: u64 = both.calls.iter().sum();
-    println!("{calls} calls agree, {:.1} s", began.elapsed().as_secs_f64());
+    let shown: u64 = both.shown.iter().sum();
+    println!("{calls} calls and the screens of {shown} images agree, {:.1} s", began.elapsed().as_secs_f64());
     ExitCode::SUCCESS
 }

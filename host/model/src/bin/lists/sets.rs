@@ -10,6 +10,7 @@ use crate::both::Both;
 use crate::damage;
 use crate::drives::{enable, foreign, Drive};
 use crate::random::Random;
+use crate::screens;
 use model::calls::KINDS;
 use model::header::{at, layout, put_number, Header, Profile, DISABLED, PROFILES};
 use model::slots::short_equal;
@@ -63,12 +64,14 @@ struct Maker<'a> {
     set: &'a [u8],
 }
 
-/// Every set, on drives of so many profiles, which take turns.
+/// Every set, on drives of so many profiles, which take turns; the empty one, where the call is accepted, on every
+/// profile.
 pub fn run(both: &mut Both, random: &mut Random, profiles: usize) -> Result<[usize; 8], String> {
     let bases = bases(both, random);
     let mut reached = [0; 8];
     for (kind, reached) in reached.iter_mut().enumerate() {
         for (i, set) in sets(kind).iter().enumerate() {
+            let profiles = if set.is_empty() { bases.len() } else { profiles };
             for base in bases.iter().cycle().skip(i % bases.len()).take(profiles) {
                 reach(both, random, base, kind, set)?;
             }
@@ -116,6 +119,17 @@ pub fn ways(both: &mut Both, random: &mut Random) -> Result<usize, String> {
         }
     }
     Ok(made)
+}
+
+/// The drives that are made of one drive of each profile: how many of them show the same on both screens, on the first
+/// alone, and on neither.
+pub fn agreements(both: &mut Both, random: &mut Random) -> Result<[usize; 3], String> {
+    let mut all = [0; 3];
+    for base in bases(both, random) {
+        let found = screens::agreements(both, random, &base.drive.image)?;
+        all.iter_mut().zip(found).for_each(|(all, found)| *all += found);
+    }
+    Ok(all)
 }
 
 /// A call that would be accepted, on an image that was changed: both must give this number.

@@ -1,0 +1,2 @@
+pub mod ScreenLaws
+pub mod ScreensTell

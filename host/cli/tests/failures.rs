@@ -2,8 +2,6 @@
 mod common;
 use common::*;
 use std::fs::{self, File};
-use std::os::unix::fs::PermissionsExt;
-use std::os::unix::process::CommandExt;
 use std::process::Command;
 
 // The drive after this line is the one before it.
@@ -131,26 +129,14 @@ fn a_missing_file() {
     folder.line("test --key-file one /dev/null").failed(66, "neither a file nor a block device");
 }
 
-// As a user who may read the file and not write it. Root may do all, so the tool then runs as another.
+// As a user who may read the file and not write it.
 #[test]
 fn a_read_only_file() {
     let folder = Folder::with_drive();
     folder.put("two", pattern(512));
-    let program = folder.path("mivrozh");
-    // By cp: a file that this process writes cannot be run while another test is just starting a process.
-    let mut copy = Command::new("cp");
-    assert!(copy.arg(env!("CARGO_BIN_EXE_mivrozh")).arg(&program).status().expect("cp runs").success());
-    fs::set_permissions(folder.path("drive"), fs::Permissions::from_mode(0o444)).expect("a mode");
-    fs::set_permissions(folder.path(""), fs::Permissions::from_mode(0o755)).expect("a mode");
+    folder.mode("drive", 0o444);
     let before = folder.get("drive");
-    let run = |line: &str| {
-        let mut command = tool_at(&program);
-        command.args(line.split_whitespace()).current_dir(folder.path(""));
-        if folder.path("drive").metadata().is_ok_and(|own| std::os::unix::fs::MetadataExt::uid(&own) == 0) {
-            command.uid(65534).gid(65534);
-        }
-        said(&mut command)
-    };
+    let run = |line: &str| folder.line_by_mode(line);
     run("test --key-file one drive").accepted();
     assert_eq!(run("read --key-file one --out - drive").status, 0);
     let writing = COMMANDS.iter().filter(|line| !READING.iter().any(|name| line.starts_with(name)));
@@ -159,7 +145,7 @@ fn a_read_only_file() {
         run(line).failed(73, "drive: it cannot be opened for writing: permission denied; check");
     }
     assert_eq!(folder.get("drive"), before);
-    fs::set_permissions(folder.path("drive"), fs::Permissions::from_mode(0o200)).expect("a mode");
+    folder.mode("drive", 0o200);
     run("test --key-file one drive").failed(66, "permission denied");
 }
 

@@ -10,7 +10,6 @@ use std::time::{Duration, Instant};
 
 const RLIMIT_CORE: i32 = 4;
 const SIGABRT: i32 = 6;
-const NOBODY: u32 = 65534;
 
 extern "C" {
     fn setrlimit(resource: i32, limit: *const [u64; 2]) -> i32;

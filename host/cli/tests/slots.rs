@@ -5,9 +5,6 @@ mod pty;
 use common::*;
 use pty::Session;
 use std::fs;
-use std::os::unix::fs::PermissionsExt;
-use std::os::unix::process::CommandExt;
-use std::process::Command;
 
 // A drive whose slots 1, 3 and 8 are enabled, with counts that differ.
 fn with_three() -> Folder {
@@ -216,29 +213,17 @@ fn standard_output_that_cannot_be_written() {
     }
 }
 
-// As a user who may read the file and not write it. Root may do all, so the tool then runs as another.
+// As a user who may read the file and not write it.
 #[test]
 fn an_image_that_may_only_be_read() {
     let folder = with_three();
-    let program = folder.path("mivrozh");
-    assert!(Command::new("cp").arg(env!("CARGO_BIN_EXE_mivrozh")).arg(&program).status().expect("cp runs").success());
-    let mode =
-        |name: &str, mode| fs::set_permissions(folder.path(name), fs::Permissions::from_mode(mode)).expect("a mode");
-    mode("drive", 0o444);
-    mode("", 0o755);
-    let run = |line: &str| {
-        let mut command = tool_at(&program);
-        command.args(line.split_whitespace()).current_dir(folder.path(""));
-        if folder.path("drive").metadata().is_ok_and(|own| std::os::unix::fs::MetadataExt::uid(&own) == 0) {
-            command.uid(65534).gid(65534);
-        }
-        said(&mut command)
-    };
+    folder.mode("drive", 0o444);
+    let run = |line: &str| folder.line_by_mode(line);
     assert_eq!(run("slots drive").accepted().out, TABLE);
     assert_eq!(run("slots --details drive").accepted().out, DETAILS);
     assert_eq!(run("uuid drive").accepted().out.len(), 37);
     run("revoke --force --slot 3 drive").failed(73, "it cannot be opened for writing");
-    mode("drive", 0o200);
+    folder.mode("drive", 0o200);
     LOOKING.iter().for_each(|line| _ = run(line).failed(66, "permission denied"));
 }
 

@@ -2,6 +2,7 @@
 #![allow(dead_code)]
 use std::ffi::OsStr;
 use std::fs;
+use std::os::unix::fs::{MetadataExt, PermissionsExt};
 use std::os::unix::process::{CommandExt, ExitStatusExt};
 use std::path::{Path, PathBuf};
 use std::process::{Command, Output, Stdio};
@@ -13,6 +14,9 @@ pub const AREA_SECTORS: usize = 5;
 pub const PAYLOAD_START: usize = 70;
 pub const PAYLOAD_UNITS: usize = 16;
 pub const LENGTH: usize = (PAYLOAD_START + PAYLOAD_UNITS) * 512;
+
+/// A user who is not root.
+pub const NOBODY: u32 = 65534;
 
 extern "C" {
     fn setsid() -> i32;
@@ -70,6 +74,29 @@ impl Folder {
     /// Runs the tool with the words of a line.
     pub fn line(&self, line: &str) -> Said {
         self.run(line.split_whitespace())
+    }
+
+    /// Sets the mode of a file; the empty name is the folder itself.
+    pub fn mode(&self, name: &str, mode: u32) {
+        fs::set_permissions(self.path(name), fs::Permissions::from_mode(mode)).expect("a mode");
+    }
+
+    /// Runs the tool with the words of a line, as a user whom the drive's mode binds. Root may do all, so it then runs as
+    /// another, who may run this folder's copy of it.
+    pub fn line_by_mode(&self, line: &str) -> Said {
+        let program = self.path("mivrozh");
+        if !program.exists() {
+            // By cp: a file that this process writes cannot be run while another test is just starting a process.
+            let mut copy = Command::new("cp");
+            assert!(copy.arg(env!("CARGO_BIN_EXE_mivrozh")).arg(&program).status().expect("cp runs").success());
+            self.mode("", 0o755);
+        }
+        let mut command = tool_at(&program);
+        command.args(line.split_whitespace()).current_dir(&self.0);
+        if self.path("drive").metadata().is_ok_and(|own| own.uid() == 0) {
+            command.uid(NOBODY).gid(NOBODY);
+        }
+        said(&mut command)
     }
 
     /// A folder with key files `one`, `two`, `three`, and a small drive `drive` whose slot 1 has the passphrase of `one`.

@@ -12,7 +12,7 @@
 #include <sys/random.h>
 
 /* Profile 2: hash sha1 and a key of 64 bytes. Profile 4 is the same with sha256. */
-enum { PROFILE = 2, KEY = 64, STRIPES = 4000, COUNT = 1000, UNITS = 8, PAYLOAD = UNITS * 512, PAYLOAD_START = 4037 };
+enum { PROFILE = 2, KEY = 64, STRIPES = 4000, COUNT = 1000, UNITS = 8, PAYLOAD = UNITS * 512, PAYLOAD_START = 4096 };
 enum { IMAGE = (PAYLOAD_START + UNITS) * 512, RANDOM = (STRIPES - 1) * KEY, FILLER = STRIPES * KEY };
 
 /* For the show these stand in the program. In earnest a passphrase is read into memory that is wiped. */

@@ -43,7 +43,7 @@
  *    9  key length not L
  *   10  count below 1,000
  *   11  UUID not 36 bytes of 33 to 126
- *   12  image shorter than the payload start
+ *   12  image shorter than the payload start that format gives it: 1 MiB or 2 MiB
  *   13  slot not 1 to 8
  *   14  passphrase not 1 to 512 bytes
  *   15  slot enabled where a free one is needed, or disabled where one in use is
@@ -70,7 +70,9 @@ extern "C" {
 
 /*
  * Makes a new drive: zeros everything before the payload, then writes the header. All slots are free, so add a passphrase at
- * once. The payload keeps its bytes.
+ * once. The payload starts on a multiple of 2,048 sectors, that is, of 1 MiB, and keeps its bytes.
+ *   image    2 MiB and the payload with 4,000 stripes. 1 MiB and the payload are enough with up to 3,967 stripes where L is
+ *            32, and with up to 1,983 where it is 64
  *   profile  1: sha1, L is 32; 2: sha1, L is 64; 3: sha256, L is 32; 4: sha256, L is 64. All other calls take the hash from
  *            the header
  *   stripes  of every slot; other tools read 4,000 only

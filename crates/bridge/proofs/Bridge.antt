@@ -2,11 +2,13 @@
 use mathlib.Core.Path.{_≡_, refl, sym, ap, _∙_}
 use mathlib.Core.List.{List, [], _∷_, _++_, map}
 use mathlib.Core.Bool.{Bool, true, false}
-use Prim.Native.Nat.{ℕ}
+use Prim.Native.Nat.{ℕ, _^_, _≤_, _<_}
+use native.Mathlib.Omega.{arith}
 use lib.Dec.{eqb}
 use borrow.Author.Tests.{eq-eqb}
 use Rattle.octets.proofs.BoolLaws.{no}
 use Rattle.rules.specs.Checks.{first}
+use Rattle.rules.specs.Profiles.{aligned}
 use Rattle.rules.specs.Facts.{Facts, factsOf}
 use Rattle.rules.specs.Header.{headerChecks}
 use Rattle.rules.specs.Calls as calls
@@ -14,9 +16,11 @@ use Rattle.rules.specs.Calls.{Call, add, change, revoke, openSlot, openAny, rea
 use Rattle.rules.specs.Step.{Run, writes, written, settle, step, run}
 use Rattle.rules.specs.Format.{FormatInput, format}
 use Rattle.rules.specs.Contracts.{DoesFormat}
-use Rattle.profiles.specs.Suites.{built}
+use Rattle.rules.proofs.AlignedLaws.{run-aligned, aligned-lawful}
+use Rattle.profiles.specs.Suites.{alignment, built}
+use Rattle.profiles.proofs.Lawful.{built-lawful}
 use Rattle.ledger.specs.Demand3.{FormatTyped, AllTyped}
-use Rattle.ledger.proofs.Built.{demand-3-built}
+use Rattle.ledger.proofs.General.{demand-3}
 use Rattle.bridge.specs.Trace.{Returned, changed, opened, filled, Kind, changing, opening, reading, kindOf, bufferOf, Ensured, imageLeft, answerIn, Trace, lastLeft, FollowsLedger}
 
 -- a call of one kind is of no other
@@ -108,11 +112,18 @@ trace-run image (c ∷ cs) (r ∷ rs) t =
 
 -- ---- the theorem, of what the functions return and leave
 
--- format's function accepts and leaves `after`; the calls' functions are then called one after the other
-pub follows-ledger : (a : FormatInput) → FormatTyped a → (image after : List ℕ) → DoesFormat built a image 0 after → (cs : List Call) → AllTyped cs
-    → (rs : List Returned) → Trace after cs rs → FollowsLedger a image after cs rs
-follows-ledger a typed image after f cs typed-calls rs t =
-    let d = demand-3-built a typed image (sym (f .code-is)) cs typed-calls in
-    let e : run built (format built a image .image) cs ≡ record { answers = map answerIn rs; image = lastLeft after rs } =
-    ap (λ m. run built m cs) (sym (f .image-is)) ∙ trace-run after cs rs t in
+-- 02, Wish 4: "Drives with the old start are read and changed as before". A drive was formatted with some alignment A (before Wish 4 with 1),
+-- and the calls' functions are called on it one after the other
+pub follows-aligned : (A : ℕ) → 1 ≤ A → A < 2 ^ 32 → (a : FormatInput) → FormatTyped a → (image after : List ℕ) → DoesFormat (aligned built A) a image 0 after
+    → (cs : List Call) → AllTyped cs → (rs : List Returned) → Trace after cs rs → FollowsLedger (aligned built A) a image after cs rs
+follows-aligned A l m a typed image after f cs typed-calls rs t =
+    let table = aligned built A in
+    let d = demand-3 table (aligned-lawful built A built-lawful l m) a typed image (sym (f .code-is)) cs typed-calls in
+    let e : run table (format table a image .image) cs ≡ record { answers = map answerIn rs; image = lastLeft after rs } =
+    ap (λ x. run table x cs) (sym (f .image-is)) ∙ run-aligned built A after cs ∙ trace-run after cs rs t in
     record { image-is = sym (ap (λ r. r .image) e) ∙ d .image-is; answers-are = sym (ap (λ r. r .answers) e) ∙ d .answers-are }
+
+-- format's function accepts and leaves `after`, on the built alignment
+pub follows-ledger : (a : FormatInput) → FormatTyped a → (image after : List ℕ) → DoesFormat built a image 0 after → (cs : List Call) → AllTyped cs
+    → (rs : List Returned) → Trace after cs rs → FollowsLedger built a image after cs rs
+follows-ledger = follows-aligned alignment (omega arith) (omega arith)

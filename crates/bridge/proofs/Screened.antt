@@ -1,16 +1,19 @@
 -- After every list of calls the two screens are the ledger's.
 use mathlib.Core.Path.{_≡_, refl, sym, ap, subst, _∙_}
 use mathlib.Core.List.{List, [], _∷_, map}
-use Prim.Native.Nat.{ℕ, suc}
-use Rattle.rules.specs.Profiles.{Table}
+use Prim.Native.Nat.{ℕ, suc, _^_, _≤_, _<_}
+use native.Mathlib.Omega.{arith}
+use Rattle.rules.specs.Profiles.{Table, aligned}
 use Rattle.rules.specs.Lawful.{LawfulTable}
 use Rattle.rules.specs.Layout.{areaStart}
-use Rattle.rules.specs.Facts.{Facts, SlotFacts, isEnabled}
+use Rattle.rules.specs.Facts.{Facts, SlotFacts, isEnabled, factsOf}
+use Rattle.rules.specs.Header.{headerChecks}
 use Rattle.rules.specs.Calls.{Call}
 use Rattle.rules.specs.Format.{FormatInput, format}
 use Rattle.rules.specs.Contracts.{DoesFormat}
 use Rattle.rules.proofs.ChecksLaws.{first-pass}
-use Rattle.profiles.specs.Suites.{built}
+use Rattle.rules.proofs.AlignedLaws.{aligned-lawful}
+use Rattle.profiles.specs.Suites.{alignment, built}
 use Rattle.profiles.proofs.Lawful.{built-lawful}
 use Rattle.screens.specs.Screens.{Screen, screen, slotScreen, detailScreen, Details, enabledBit, detailsOf, noDetails, Shows}
 use Rattle.screens.proofs.ScreenLaws.{accepted-screen}
@@ -23,7 +26,7 @@ use Rattle.ledger.proofs.StartLaws.{start-good}
 use Rattle.ledger.proofs.General.{demand-3}
 use Rattle.bridge.specs.Trace.{Returned, Trace}
 use Rattle.bridge.specs.Screened.{liveBit, ledgerDetails, ledgerSlots, ledgerSlotDetails, ScreensFollow, ShownFollow}
-use Rattle.bridge.proofs.Bridge.{follows-ledger}
+use Rattle.bridge.proofs.Bridge.{follows-aligned}
 
 -- ---- a screen of a ledger's image, entry by entry
 
@@ -88,13 +91,27 @@ screens-follow table lawful a typed image yes′ cs t =
       details-are = ap (detailScreen table) ends ∙ details-good table _ g;
     }
 
--- of what the functions return and leave
-pub shown-follow : (a : FormatInput) → FormatTyped a → (image after : List ℕ) → DoesFormat built a image 0 after → (cs : List Call) → AllTyped cs
-    → (rs : List Returned) → Trace after cs rs → ShownFollow a image after cs rs
-shown-follow a typed image after f cs t rs trace =
-    let s = screens-follow built built-lawful a typed image (sym (f .code-is)) cs t in
-    let left = follows-ledger a typed image after f cs t rs trace .image-is ∙ sym (demand-3 built built-lawful a typed image (sym (f .code-is)) cs t .image-is) in
+-- a screen looks at no alignment
+screen-aligned : {E : Type 0} (entry : SlotFacts → E) (zero : E) (table : Table) (A : ℕ) (image : List ℕ) → screen entry zero table image ≡ screen entry zero (aligned table A) image
+unfolding screen factsOf headerChecks
+screen-aligned entry zero table A image = refl
+
+-- of what the functions return and leave, on a drive with any alignment
+pub shown-aligned : (A : ℕ) → 1 ≤ A → A < 2 ^ 32 → (a : FormatInput) → FormatTyped a → (image after : List ℕ) → DoesFormat (aligned built A) a image 0 after
+    → (cs : List Call) → AllTyped cs → (rs : List Returned) → Trace after cs rs → ShownFollow (aligned built A) a image after cs rs
+shown-aligned A l m a typed image after f cs t rs trace =
+    let table = aligned built A in
+    let ok = aligned-lawful built A built-lawful l m in
+    let s = screens-follow table ok a typed image (sym (f .code-is)) cs t in
+    let left = follows-aligned A l m a typed image after f cs t rs trace .image-is ∙ sym (demand-3 table ok a typed image (sym (f .code-is)) cs t .image-is) in
+    let slots = ap (slotScreen built) left ∙ screen-aligned enabledBit 0 built A _ ∙ s .slots-are in
+    let details = ap (detailScreen built) left ∙ screen-aligned detailsOf noDetails built A _ ∙ s .details-are in
     record {
-      slots-show = λ code enabled h. subst (λ (x : Screen ℕ). Shows x code enabled) (ap (slotScreen built) left ∙ s .slots-are) h;
-      details-show = λ code entries h. subst (λ (x : Screen Details). Shows x code entries) (ap (detailScreen built) left ∙ s .details-are) h;
+      slots-show = λ code enabled h. subst (λ (x : Screen ℕ). Shows x code enabled) slots h;
+      details-show = λ code entries h. subst (λ (x : Screen Details). Shows x code entries) details h;
     }
+
+-- and on one that format's function made
+pub shown-follow : (a : FormatInput) → FormatTyped a → (image after : List ℕ) → DoesFormat built a image 0 after → (cs : List Call) → AllTyped cs
+    → (rs : List Returned) → Trace after cs rs → ShownFollow built a image after cs rs
+shown-follow = shown-aligned alignment (omega arith) (omega arith)

@@ -37,8 +37,9 @@ pub record ScreensFollow (table : Table) (a : FormatInput) (image : List ℕ) (c
   pub slots-are : slotScreen table (lastImage table a image cs) ≡ ledgerSlots (lastLedger table a image cs)
   pub details-are : detailScreen table (lastImage table a image cs) ≡ ledgerSlotDetails table (lastLedger table a image cs)
 
--- the same of what the functions return after a trace: a screen's function, called then, shows the ledger's screen
-pub record ShownFollow (a : FormatInput) (image after : List ℕ) (cs : List Call) (rs : List Returned) : Type 0 where
-  pub slots-show : (code : ℕ) (enabled : List ℕ) → Shows (slotScreen built (lastLeft after rs)) code enabled → Shows (ledgerSlots (lastLedger built a image cs)) code enabled
+-- the same of what the functions return after a trace on a drive that was formatted by the rules of a table: a screen's function, called then,
+-- shows the ledger's screen
+pub record ShownFollow (table : Table) (a : FormatInput) (image after : List ℕ) (cs : List Call) (rs : List Returned) : Type 0 where
+  pub slots-show : (code : ℕ) (enabled : List ℕ) → Shows (slotScreen built (lastLeft after rs)) code enabled → Shows (ledgerSlots (lastLedger table a image cs)) code enabled
   pub details-show : (code : ℕ) (entries : List Details) → Shows (detailScreen built (lastLeft after rs)) code entries
-      → Shows (ledgerSlotDetails built (lastLedger built a image cs)) code entries
+      → Shows (ledgerSlotDetails table (lastLedger table a image cs)) code entries

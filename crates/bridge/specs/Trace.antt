@@ -4,6 +4,7 @@ use mathlib.Core.List.{List, [], _∷_, map}
 use mathlib.Core.Bool.{cond}
 use Prim.Native.Nat.{ℕ}
 use lib.Dec.{eqb}
+use Rattle.rules.specs.Profiles.{Table}
 use Rattle.rules.specs.Calls.{Call, add, change, revoke, openSlot, openAny, read, write, Answer}
 use Rattle.rules.specs.Format.{FormatInput}
 use Rattle.rules.specs.Contracts.{Does, DoesOpen, DoesRead}
@@ -71,7 +72,7 @@ abbrev pub lastLeft : List ℕ → List Returned → List ℕ
 lastLeft image [] = image
 lastLeft image (r ∷ rs) = lastLeft (imageLeft image r) rs
 
--- what the theorem says of them after an accepted format: image and answers are the ledger's
-pub record FollowsLedger (a : FormatInput) (image after : List ℕ) (cs : List Call) (rs : List Returned) : Type 0 where
-  pub image-is : lastLeft after rs ≡ ledgerImage built (lastLedger built a image cs)
-  pub answers-are : map answerIn rs ≡ ledgerAnswers built a image cs
+-- what the theorem says of them after an accepted format by the rules of a table: image and answers are the ledger's
+pub record FollowsLedger (table : Table) (a : FormatInput) (image after : List ℕ) (cs : List Call) (rs : List Returned) : Type 0 where
+  pub image-is : lastLeft after rs ≡ ledgerImage table (lastLedger table a image cs)
+  pub answers-are : map answerIn rs ≡ ledgerAnswers table a image cs

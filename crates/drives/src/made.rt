@@ -16,6 +16,13 @@ pub fn image_512() -> [u8; 2072576]
     [0; 2072576]
 }
 
+// Room for the drive with the old start: 65 sectors and 8 units.
+pub fn image_start_65() -> [u8; 37376]
+    ensures { λ r. ⌜ 37376 ≡ length r ⌝ }
+{
+    [0; 37376]
+}
+
 // Room for an area, 4,000 stripes.
 pub fn filler_256() -> [u8; 128000]
     ensures { λ r. ⌜ 128000 ≡ length r ⌝ }

@@ -1,5 +1,5 @@
 // Drives made by cryptsetup, opened, read, damaged and changed in memory: one line for each thing tried, and ok or FAILED.
-// tools/make_drives.sh made them.
+// tools/make_drives.sh made them. And one that format made before Wish 4, whose payload begins right after its areas.
 mod changes;
 mod damage;
 mod made;
@@ -74,14 +74,27 @@ fn written(image: &mut [u8], drive: u64, key: &[u8]) {
     payloads::whole(drive, image, key);
 }
 
-// What is tried of a drive. The volume key is the bytes 0, 1, 2, ..; the wrong key is as long.
+// Slots and payload, changed and written.
+fn used(image: &mut [u8], drive: u64, key: &[u8], wrong: &[u8], filler: &[u8], random: &[u8]) {
+    changed(image, drive, key, wrong, filler, random);
+    changed_further(image, drive, key, filler, random);
+    written(image, drive, key);
+}
+
+// All that is tried of a drive. The volume key is the bytes 0, 1, 2, ..; the wrong key is as long.
 fn tried(image: &mut [u8], drive: u64, key: &[u8], wrong: &[u8], filler: &[u8], random: &[u8]) {
     as_it_is(image, drive, key, wrong);
     damaged(image, drive);
     damaged_further(image, drive);
-    changed(image, drive, key, wrong, filler, random);
-    changed_further(image, drive, key, filler, random);
-    written(image, drive, key);
+    used(image, drive, key, wrong, filler, random);
+}
+
+// The same without damage, of a drive with the old start: its payload begins where it began, also after all changes.
+fn tried_old(image: &mut [u8], drive: u64, key: &[u8], wrong: &[u8], filler: &[u8], random: &[u8]) {
+    as_it_is(image, drive, key, wrong);
+    used(image, drive, key, wrong, filler, random);
+    let start = damage::be32_at(image, 104);
+    report::line(drive, b"payload start 65 after all this", start == 65);
 }
 
 // Fills the key, the wrong key, the filler and the random stripes; modulo 251 no two units are alike.
@@ -92,7 +105,13 @@ fn fill(key: &mut [u8], wrong: &mut [u8], filler: &mut [u8], random: &mut [u8]) 
     testing::sequence(random, 3, 13, 251);
 }
 
-// The drive of the profile with this number, in the file, which has exactly as many bytes as the image, with room for the rest.
+// The file has exactly as many bytes as the image.
+fn loaded(image: &mut [u8], drive: u64, file: &[u8]) {
+    let n = testing::load(image, file);
+    report::line(drive, b"is read whole", n == image.len());
+}
+
+// The drive of the profile with this number, in the file, with room for the rest.
 fn drive(
     image: &mut [u8],
     key: &mut [u8],
@@ -102,8 +121,7 @@ fn drive(
     profile: u64,
     file: &[u8],
 ) {
-    let n = testing::load(image, file);
-    report::line(profile, b"is read whole", n == image.len());
+    loaded(image, profile, file);
     fill(key, wrong, filler, random);
     tried(image, profile, key, wrong, filler, random);
 }
@@ -142,9 +160,22 @@ fn drive_512(profile: u64, file: &[u8]) {
     );
 }
 
+// The drive with the old start: 15 stripes of 32 bytes.
+fn drive_start_65(number: u64, file: &[u8]) {
+    let mut image = made::image_start_65();
+    let mut key = [0u8; 32];
+    let mut wrong = [0u8; 32];
+    let mut filler = [0u8; 480];
+    let mut random = [0u8; 448];
+    loaded(&mut image, number, file);
+    fill(&mut key, &mut wrong, &mut filler, &mut random);
+    tried_old(&mut image, number, &key, &wrong, &filler, &random);
+}
+
 fn main() {
     drive_256(1, b"luks1-256.img");
     drive_512(2, b"luks1-512.img");
     drive_256(3, b"luks1-sha256-256.img");
     drive_512(4, b"luks1-sha256-512.img");
+    drive_start_65(5, b"luks1-start-65.img");
 }

@@ -1,17 +1,24 @@
-// One line for each thing found: the drive, by the number of its profile, what was tried, and ok or FAILED.
+// One line for each thing found: the drive, by the number of its profile (5 is the one with the old start), what was tried, and ok or FAILED.
 use libc::STDOUT_FILENO;
 
-// The drive's hash, and the bits of its volume key.
+// The drive's hash and the bits of its volume key; the last one's payload start.
 fn name(drive: u64) {
-    if drive < 3 {
-        io::write_all(STDOUT_FILENO, b"sha1, ");
-    } else {
-        io::write_all(STDOUT_FILENO, b"sha256, ");
-    }
-    if drive % 2 == 1 {
-        io::write_all(STDOUT_FILENO, b"256-bit drive: ");
-    } else {
-        io::write_all(STDOUT_FILENO, b"512-bit drive: ");
+    match drive {
+        1 => {
+            io::write_all(STDOUT_FILENO, b"sha1, 256-bit drive: ");
+        }
+        2 => {
+            io::write_all(STDOUT_FILENO, b"sha1, 512-bit drive: ");
+        }
+        3 => {
+            io::write_all(STDOUT_FILENO, b"sha256, 256-bit drive: ");
+        }
+        4 => {
+            io::write_all(STDOUT_FILENO, b"sha256, 512-bit drive: ");
+        }
+        _ => {
+            io::write_all(STDOUT_FILENO, b"payload start 65, sha1, 256-bit drive: ");
+        }
     }
 }
 

@@ -7,7 +7,7 @@ use Rattle.octets.specs.Pieces.{pieces, inPieces}
 use Rattle.suite.specs.Split.{running, split, mergeFrom, merge}
 use Rattle.rules.specs.Checks.{first, every}
 use Rattle.rules.specs.Profiles.{holdsText, fits, numberOf, noProfile, profileAt, known}
-use Rattle.rules.specs.Layout.{areaSectors, roundUp, areaStart, payloadStart}
+use Rattle.rules.specs.Layout.{areaSectors, roundUp, areaStart, areasEnd, payloadStart}
 use Rattle.rules.specs.Facts
 use Rattle.rules.specs.Header
 use Rattle.rules.specs.Calls
@@ -22,7 +22,7 @@ use Rattle.example.specs.ExampleHolds.{Computed}
 
 pub computed : Computed
 unfolding _⊕_ flatten zeros bigEndian be32At xors same part splice pieces inPieces running split mergeFrom merge first every holdsText fits numberOf noProfile profileAt known
-    areaSectors roundUp areaStart payloadStart Facts.isEnabled Facts.noSlot Facts.slotOf Facts.slotAt Facts.profileIn Facts.factsOf Facts.checksumOf Facts.matches
+    areaSectors roundUp areaStart areasEnd payloadStart Facts.isEnabled Facts.noSlot Facts.slotOf Facts.slotAt Facts.profileIn Facts.factsOf Facts.checksumOf Facts.matches
     Facts.keyMaterial Facts.candidateOf Facts.candidate Header.sizeOk Header.recordOk Header.slotOk Header.areaEnd Header.inside Header.apart Header.allApart
     Header.soundChecks Header.headerChecks Calls.slotNumberOk Calls.passphraseOk Calls.keyOk Calls.countOk Calls.randomOk Calls.fillerOk Calls.anyEnabled Calls.otherEnabled
     Calls.opens Calls.seek Calls.rangeChecks Calls.earlyChecks Calls.lateChecks Calls.checks Calls.done Calls.opened Calls.bytesRead Calls.answer Calls.noKey Calls.refused

@@ -3,6 +3,7 @@ use mathlib.Core.Path.{_≡_, refl, ap₂}
 use mathlib.Core.List.{List, [], _∷_}
 use Prim.Native.Nat.{ℕ, zero, suc, _+_, _%_, _<_}
 use native.Mathlib.Nat.{mod-lt, zero-lt-suc}
+use native.Mathlib.Omega.{arith}
 use lib.ListN.{replicate, length-replicate}
 use Rattle.octets.specs.Octets.{Bytes, Str, _⊕_, zeros, same}
 use Rattle.octets.proofs.XorLaws.{⊕-byte, ⊕-undo}
@@ -43,4 +44,4 @@ suite-lawful L =
 
 pub small-lawful : LawfulTable smallTable
 unfolding rowsOk every rowOk finds distinct known numberOf fits holdsText zeros same smallProfile smallTable
-small-lawful = record { rows-ok = refl; suites = λ k h. suite-lawful _ }
+small-lawful = record { rows-ok = refl; suites = λ k h. suite-lawful _; alignment-least = omega arith; alignment-most = omega arith }

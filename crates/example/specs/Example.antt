@@ -63,9 +63,9 @@ stripe = 200 ∷ 17 ∷ 5 ∷ 99 ∷ 0 ∷ 255 ∷ 128 ∷ 64 ∷ 31 ∷ 2 ∷ 7
 unfoldable pub input : FormatInput
 input = record { profile = 1; stripes = 2; key = theKey; salt = bytes 32 3; count = 2; uuid = bytes 36 0x61 }
 
--- 67 sectors: 65 before the payload, and two of it, one of bytes 6 and one of bytes 9
+-- 70 sectors: 68 before the payload, where area 8 ends with the first 65, and two of it, one of bytes 6 and one of bytes 9
 unfoldable pub image : List ℕ
-image = bytes (65 * 512) 7 ++ (bytes 512 6 ++ bytes 512 9)
+image = bytes (68 * 512) 7 ++ (bytes 512 6 ++ bytes 512 9)
 
 -- ---- answers
 
@@ -219,7 +219,7 @@ endBytes =
     ∷ (0x73 ∷ zeros 31)  -- 8: cipher name
     ∷ (0x6D ∷ zeros 31)  -- 40: cipher mode
     ∷ (0x68 ∷ zeros 31)  -- 72: hash
-    ∷ (0 ∷ 0 ∷ 0 ∷ 65 ∷ 0 ∷ 0 ∷ 0 ∷ 16 ∷ [])  -- 104: payload start, key bytes
+    ∷ (0 ∷ 0 ∷ 0 ∷ 68 ∷ 0 ∷ 0 ∷ 0 ∷ 16 ∷ [])  -- 104: payload start, key bytes
     ∷ bytes 20 234  -- 112: checksum, (1 + .. + 16 + 32 × 3 + 2) mod 256
     ∷ bytes 32 3  -- 132: checksum salt
     ∷ (0 ∷ 0 ∷ 0 ∷ 2 ∷ [])  -- 164: checksum count
@@ -244,7 +244,8 @@ endBytes =
     ∷ zeros 12256
     ∷ endArea8  -- 32768: area 8
     ∷ zeros 480
-    ∷ bytes 512 6  -- 33280: the payload
+    ∷ zeros 1536  -- 33280: between area 8 and the payload
+    ∷ bytes 512 6  -- 34816: the payload
     ∷ bytes 512 0x28  -- 0x2A xor (1 + 1)
     ∷ [])
 
@@ -270,7 +271,7 @@ endDetails =
 
 -- zeros before the payload, and the same payload
 unfoldable pub otherImage : List ℕ
-otherImage = zeros (65 * 512) ++ (bytes 512 6 ++ bytes 512 9)
+otherImage = zeros (68 * 512) ++ (bytes 512 6 ++ bytes 512 9)
 
 -- other passphrases, salts and counts in the slots that end empty, no change, another order
 unfoldable pub fewerCalls : List Call

@@ -1,16 +1,18 @@
--- A drive of the built suite (profile 1: aes, xts-plain64, sha1), and what demand 3 says of it. Nothing here is derived or enciphered by the checker.
+-- Two drives of the built suite (profile 1: aes, xts-plain64, sha1), one as format makes it and one with the start of before Wish 4, and what demand 3
+-- says of both. Nothing here is derived or enciphered by the checker.
 use mathlib.Core.Path.{_≡_}
 use mathlib.Core.List.{List, [], _∷_, _++_}
 use Prim.Native.Nat.{ℕ, _*_}
 use lib.ListN.{length}
 use Rattle.octets.specs.Octets.{zeros, padded}
+use Rattle.rules.specs.Profiles.{aligned}
 use Rattle.rules.specs.Facts.{SlotInput, slotInput}
 use Rattle.rules.specs.Calls.{Call, add, change, revoke, openSlot, read, write, Answer}
-use Rattle.rules.specs.Step.{step}
-use Rattle.rules.specs.Format.{FormatInput, format}
-use Rattle.profiles.specs.Suites.{built}
+use Rattle.rules.specs.Step.{Run, step, run}
+use Rattle.rules.specs.Format.{FormatInput, payloadStartOf, format}
+use Rattle.profiles.specs.Suites.{alignment, built}
 use Rattle.ledger.specs.Ledger.{Ledger, empty, live, ledgerImage}
-use Rattle.ledger.specs.Demand3.{FormatTyped, AllTyped, entryOf, SomeLive, answersGiven, lastImage, lastLedger}
+use Rattle.ledger.specs.Demand3.{FormatTyped, AllTyped, entryOf, SomeLive, lastLedger}
 use Rattle.example.specs.Example.{bytes, one, two, three, noOpen, said}
 
 -- ---- arguments
@@ -39,9 +41,13 @@ inputOf k key =
 unfoldable pub realInput : FormatInput
 realInput = inputOf 1 realKey
 
--- 67 sectors: 65 before the payload, and two of it
+-- 2,050 sectors: 2,048 before the payload, and two of it
 unfoldable pub realImage : List ℕ
-realImage = zeros (67 * 512)
+realImage = zeros (2050 * 512)
+
+-- 67 sectors: 65 before the payload of an old drive, and two of it
+unfoldable pub oldImage : List ℕ
+oldImage = zeros (67 * 512)
 
 -- what makes slot 1 live
 unfoldable pub slotOne : SlotInput
@@ -87,30 +93,40 @@ realAnswers =
 
 -- ---- the statement
 
--- the image after the list
-abbrev pub realEnd : List ℕ
-realEnd = lastImage built realInput realImage realCalls
+-- format with alignment A, then the list by the calls of the built table
+module _ (A : ℕ) (image : List ℕ) where
+  -- what they answer, and the image that they leave
+  abbrev pub realRun : Run
+  realRun = run built (format (aligned built A) realInput image .image) realCalls
 
--- the ledger after the list
-abbrev pub realLedger : Ledger
-realLedger = lastLedger built realInput realImage realCalls
+  -- the ledger after the list
+  abbrev pub realLedger : Ledger
+  realLedger = lastLedger (aligned built A) realInput image realCalls
 
 -- the theorem's hypotheses are met, and what it says then
-pub record RealDrive : Type 0 where
+pub record RealDrive (A : ℕ) (image : List ℕ) : Type 0 where
   pub input-typed : FormatTyped realInput
   pub calls-typed : AllTyped realCalls
-  pub accepted : format built realInput realImage .code ≡ 0
-  pub answers-are : answersGiven built realInput realImage realCalls ≡ realAnswers
-  pub image-is : realEnd ≡ ledgerImage built realLedger
+  pub accepted : format (aligned built A) realInput image .code ≡ 0
+  pub answers-are : realRun A image .answers ≡ realAnswers
+  pub image-is : realRun A image .image ≡ ledgerImage (aligned built A) (realLedger A image)
   -- slots 1 and 2 are empty, with the filler of the revoke and of the change
-  pub slot-1 : entryOf realLedger 1 ≡ empty filler
-  pub slot-2 : entryOf realLedger 2 ≡ empty filler
+  pub slot-1 : entryOf (realLedger A image) 1 ≡ empty filler
+  pub slot-2 : entryOf (realLedger A image) 2 ≡ empty filler
   -- slot 3 is live with the key that the change took from slot 2, and opens with it after the list
-  pub slot-3 : entryOf realLedger 3 ≡ live realKey slotThree
-  pub opens-3 : step built realEnd (openSlot 3 three) .said ≡ realOpened 3
+  pub slot-3 : entryOf (realLedger A image) 3 ≡ live realKey slotThree
+  pub opens-3 : step built (realRun A image .image) (openSlot 3 three) .said ≡ realOpened 3
   -- the unit that was written reads back after the list
-  pub reads-1 : (buffer : List ℕ) → length buffer ≡ 512 → step built realEnd (read realKey 1 1 buffer) .said ≡ said 0 (bytes 512 0x2A)
-  pub some-live : SomeLive realLedger
+  pub reads-1 : (buffer : List ℕ) → length buffer ≡ 512 → step built (realRun A image .image) (read realKey 1 1 buffer) .said ≡ said 0 (bytes 512 0x2A)
+  pub some-live : SomeLive (realLedger A image)
+
+-- both drives: where their payloads stand, and the list on each; the old image is too short for format now
+pub record BothDrives : Type 0 where
+  pub new-start : payloadStartOf built realInput ≡ 2048
+  pub new-drive : RealDrive alignment realImage
+  pub old-start : payloadStartOf (aligned built 1) realInput ≡ 65
+  pub old-drive : RealDrive 1 oldImage
+  pub old-short : format built realInput oldImage .code ≡ 12
 
 -- ---- the other profiles
 

@@ -36,6 +36,6 @@ unfoldable pub smallProfile : Profile
 smallProfile =
     record { number = 1; cipher = 0x73 ∷ []; mode = 0x6D ∷ []; hash = 0x68 ∷ []; keyBytes = 16; minSlotCount = 2; minChecksumCount = 2 }
 
--- the table of that profile alone
+-- the table of that profile alone; a payload begins on a multiple of 4 sectors, since an image of 2,048 sectors is too long to compute with
 unfoldable pub smallTable : Table
-smallTable = record { rows = smallProfile ∷ []; suiteOf = λ k. smallSuite }
+smallTable = record { rows = smallProfile ∷ []; suiteOf = λ k. smallSuite; alignment = 4 }

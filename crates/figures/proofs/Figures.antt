@@ -1,13 +1,13 @@
 -- Every figure holds.
 use mathlib.Core.Path.{_≡_, refl, ap₂, _∙_}
 use mathlib.Core.List.{List, [], _∷_}
-use mathlib.Core.Bool.{_&&_}
-use Prim.Native.Nat.{ℕ, zero, suc, _*_, _%_}
+use mathlib.Core.Bool.{Bool, true, false, _&&_, _||_}
+use Prim.Native.Nat.{ℕ, zero, suc, _*_, _%_, _≤_, _<_}
 use native.Mathlib.Nat.{zero-mul}
 use native.Mathlib.Omega.{arith}
 use lib.Dec.{eqb, leb}
 use lib.ListN.{length, length-take, length-drop}
-use borrow.Author.Tests.{le-leb, ne-eqb}
+use borrow.Author.Tests.{leb-true, leb-false, le-leb, eq-eqb, ne-eqb}
 use Rattle.octets.specs.Octets.{xors, zeros}
 use Rattle.octets.specs.Pieces.{pieces, inPieces}
 use Rattle.octets.proofs.XorLaws.{zero-⊕}
@@ -16,20 +16,21 @@ use Rattle.suite.specs.Split.{running, split, mergeFrom, merge}
 use Rattle.xts.proofs.Figures.{double-first, double-last}
 use Rattle.rules.specs.Checks.{Check, first}
 use Rattle.rules.specs.Profiles.{profileAt, known}
-use Rattle.rules.specs.Layout.{areaSectors, roundUp, areaStart, payloadStart}
+use Rattle.rules.specs.Layout.{areaSectors, roundUp, areaStart, areasEnd, payloadStart}
 use Rattle.rules.specs.Header.{sizeOk}
 use Rattle.rules.specs.Format.{FormatInput, formatChecks, settleFormat, format}
 use Rattle.profiles.specs.Rows.{hashOf, aesXtsRow, rows}
-use Rattle.profiles.specs.Suites.{built}
+use Rattle.profiles.specs.Suites.{alignment, built}
 use Rattle.screens.specs.Screens.{enabledBit, detailsOf, noDetails}
 use Rattle.ledger.specs.Ledger.{startLedger, setSlot}
+use Rattle.ledger.proofs.LayoutLaws.{end-is, end-most}
 use Rattle.bridge.specs.Screened.{liveBit, ledgerSlots}
 use Rattle.figures.specs.Figures.{Plain, pieceLengths, Figures}
 use Rattle.figures.proofs.ScreenFigures.{after-2, fresh-slots, fresh-details, added-slots}
 
 -- what is left to check of plain arguments, where the image has n bytes
 abbrev lengthChecks : ℕ → List Check
-lengthChecks n = (leb 1024 n && eqb (n % 512) 0, 1) ∷ (leb (65 * 512) n, 12) ∷ []
+lengthChecks n = (leb 1024 n && eqb (n % 512) 0, 1) ∷ (leb (2048 * 512) n, 12) ∷ []
 
 module _ (a : FormatInput) (image : List ℕ) where
   -- format's number is that of its first check that fails
@@ -56,6 +57,26 @@ module _ (a : FormatInput) (image : List ℕ) where
 
     by-length : (n r : ℕ) → length image ≡ n → first (lengthChecks n) ≡ r → format built a image .code ≡ r
     by-length n r e f = code-is r (left-to-check n e ∙ f)
+
+-- ---- the payload's start
+
+aligned-1 : (n L : ℕ) → payloadStart 1 n L ≡ areasEnd n L
+unfolding payloadStart roundUp
+aligned-1 n L = omega arith
+
+two-starts : (n L : ℕ) → n ≤ 4000 → L ≤ 64 → (eqb (payloadStart alignment n L) 2048 || eqb (payloadStart alignment n L) 4096) ≡ true
+unfolding payloadStart roundUp
+two-starts n L h k = go (leb (areasEnd n L) 2048) refl
+  where
+    e : 8 ≤ areasEnd n L
+    e = let i = end-is n L in omega arith
+
+    go : (b : Bool) → leb (areasEnd n L) 2048 ≡ b → (eqb (roundUp alignment (areasEnd n L)) 2048 || eqb (roundUp alignment (areasEnd n L)) 4096) ≡ true
+    go true l = let m = leb-true (areasEnd n L) 2048 l in rw (eq-eqb (roundUp alignment (areasEnd n L)) 2048 (omega (arith, e)))
+    go false l =
+        let m : 2048 < areasEnd n L = leb-false (areasEnd n L) 2048 l in
+        let x : roundUp alignment (areasEnd n L) ≡ 4096 = omega (arith, end-most n L h k) in
+        rw x
 
 -- ---- the splitter
 
@@ -91,21 +112,33 @@ module _ (H : List ℕ → List ℕ) (key : List ℕ) where
   one-merged = rw (zero-mul (length key)) (zeros-xors key)
 
 pub figures : Figures
-unfolding areaSectors roundUp areaStart payloadStart first startLedger ledgerSlots setSlot liveBit noDetails
+unfolding areaSectors roundUp areaStart areasEnd payloadStart first startLedger ledgerSlots setSlot liveBit noDetails
 figures =
     record {
       sectors-32 = refl;
       starts-32 = refl;
-      payload-32 = refl;
+      end-32 = refl;
       sectors-64 = refl;
       starts-64 = refl;
+      end-64 = refl;
+      end-n-1 = refl;
+      end-n-15 = refl;
+      end-n-16 = refl;
+      aligned-1 = aligned-1;
+      payload-32 = refl;
       payload-64 = refl;
       payload-n-1 = refl;
       payload-n-15 = refl;
       payload-n-16 = refl;
-      length-33280 = λ a image h e. by-length a image h 33280 0 e refl;
-      length-33279 = λ a image h e. by-length a image h 33279 1 e refl;
-      length-32768 = λ a image h e. by-length a image h 32768 12 e refl;
+      payload-n-3967 = refl;
+      payload-n-3968 = refl;
+      payload-64-n-1983 = refl;
+      payload-64-n-1984 = refl;
+      two-starts = two-starts;
+      length-1048576 = λ a image h e. by-length a image h 1048576 0 e refl;
+      length-1048575 = λ a image h e. by-length a image h 1048575 1 e refl;
+      length-1048064 = λ a image h e. by-length a image h 1048064 12 e refl;
+      length-33280 = λ a image h e. by-length a image h 33280 12 e refl;
       doubled-first = double-first;
       doubled-last = double-last;
       substituted-0 = sub-0x00;

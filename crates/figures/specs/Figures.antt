@@ -1,8 +1,9 @@
--- The figures of 01 ("Figures to check") and of Wishes 1 and 2 of 02, as statements over the definitions that the calls' contracts cite.
+-- The figures of 01 ("Figures to check") and of Wishes 1, 2 and 4 of 02, as statements over the definitions that the calls' contracts cite.
 use mathlib.Core.Path.{_≡_}
 use mathlib.Core.List.{List, [], _∷_, _++_, map}
-use mathlib.Core.Bool.{true, false}
+use mathlib.Core.Bool.{true, false, _||_}
 use Prim.Native.Nat.{ℕ, _≤_}
+use lib.Dec.{eqb}
 use lib.ListN.{length, replicate}
 use Rattle.octets.specs.Octets.{zeros, same}
 use Rattle.octets.specs.Pieces.{inPieces}
@@ -11,23 +12,23 @@ use Rattle.hash.specs.Hash.{digestOf}
 use Rattle.gf256.specs.Field.{xtime, sub}
 use Rattle.suite.specs.Split.{split, merge}
 use Rattle.xts.specs.Xts.{double}
-use Rattle.rules.specs.Layout.{areaSectors, areaStart, payloadStart, slots}
+use Rattle.rules.specs.Layout.{areaSectors, areaStart, areasEnd, payloadStart, slots}
 use Rattle.rules.specs.Facts.{SlotInput}
 use Rattle.rules.specs.Header.{magic, sizeOk}
 use Rattle.rules.specs.Calls.{add}
 use Rattle.rules.specs.Step.{After, step}
 use Rattle.rules.specs.Format.{FormatInput, printable, format}
 use Rattle.profiles.specs.Rows.{hashOf}
-use Rattle.profiles.specs.Suites.{suiteOf, built}
+use Rattle.profiles.specs.Suites.{suiteOf, alignment, built}
 use Rattle.screens.specs.Screens.{slotScreen, detailScreen}
 use Rattle.ledger.specs.Demand3.{FormatTyped, Typed}
 
--- format's arguments for profile 1 and any stripes that give payload 65, with nothing wrong but maybe the image's length
+-- format's arguments for profile 1 and any stripes that give payload 2,048, with nothing wrong but maybe the image's length
 pub record Plain (a : FormatInput) : Type 0 where
   pub profile-is : a .profile ≡ 1
   pub stripes-least : 1 ≤ a .stripes
   pub stripes-most : a .stripes ≤ 4000
-  pub payload-is : payloadStart (a .stripes) 32 ≡ 65
+  pub payload-is : payloadStart alignment (a .stripes) 32 ≡ 2048
   pub key-is : length (a .key) ≡ 32
   pub count-is : 1000 ≤ a .count
   pub uuid-long : length (a .uuid) ≡ 36
@@ -48,22 +49,38 @@ pieceLengths k x = inPieces (digestOf (hashOf k) .size) (λ i piece. length piec
 
 -- the one table
 pub record Figures : Type 0 where
-  -- "L 32, n 4,000: 251 sectors; starts 8, 264, 520, 776, 1,032, 1,288, 1,544, 1,800; payload 2,051"
+  -- "L 32, n 4,000: 251 sectors; starts 8, 264, 520, 776, 1,032, 1,288, 1,544, 1,800; payload 2,051", which is now where area 8 ends
   pub sectors-32 : areaSectors 4000 32 ≡ 251
   pub starts-32 : map (areaStart 4000 32) slots ≡ 8 ∷ 264 ∷ 520 ∷ 776 ∷ 1032 ∷ 1288 ∷ 1544 ∷ 1800 ∷ []
-  pub payload-32 : payloadStart 4000 32 ≡ 2051
-  -- "L 64, n 4,000: 501; starts 8, 512, 1,016, 1,520, 2,024, 2,528, 3,032, 3,536; payload 4,037"
+  pub end-32 : areasEnd 4000 32 ≡ 2051
+  -- "L 64, n 4,000: 501; starts 8, 512, 1,016, 1,520, 2,024, 2,528, 3,032, 3,536; payload 4,037", which is now where area 8 ends
   pub sectors-64 : areaSectors 4000 64 ≡ 501
   pub starts-64 : map (areaStart 4000 64) slots ≡ 8 ∷ 512 ∷ 1016 ∷ 1520 ∷ 2024 ∷ 2528 ∷ 3032 ∷ 3536 ∷ []
-  pub payload-64 : payloadStart 4000 64 ≡ 4037
-  -- "L 32: n 1 and n 15 give payload 65; n 16 gives 66"
-  pub payload-n-1 : payloadStart 1 32 ≡ 65
-  pub payload-n-15 : payloadStart 15 32 ≡ 65
-  pub payload-n-16 : payloadStart 16 32 ≡ 66
-  -- "For payload 65: 33,280 bytes pass, 33,279 give 1, 32,768 give 12"
-  pub length-33280 : (a : FormatInput) (image : List ℕ) → Plain a → length image ≡ 33280 → format built a image .code ≡ 0
-  pub length-33279 : (a : FormatInput) (image : List ℕ) → Plain a → length image ≡ 33279 → format built a image .code ≡ 1
-  pub length-32768 : (a : FormatInput) (image : List ℕ) → Plain a → length image ≡ 32768 → format built a image .code ≡ 12
+  pub end-64 : areasEnd 4000 64 ≡ 4037
+  -- "L 32: n 1 and n 15 give payload 65; n 16 gives 66": area 8 ends there
+  pub end-n-1 : areasEnd 1 32 ≡ 65
+  pub end-n-15 : areasEnd 15 32 ≡ 65
+  pub end-n-16 : areasEnd 16 32 ≡ 66
+  -- with alignment 1 the payload begins there, as 01 has it
+  pub aligned-1 : (n L : ℕ) → payloadStart 1 n L ≡ areasEnd n L
+  -- 02, "Wish 4": "2,051 and 4,037 become 4,096, and 65 becomes 2,048"
+  pub payload-32 : payloadStart alignment 4000 32 ≡ 4096
+  pub payload-64 : payloadStart alignment 4000 64 ≡ 4096
+  pub payload-n-1 : payloadStart alignment 1 32 ≡ 2048
+  pub payload-n-15 : payloadStart alignment 15 32 ≡ 2048
+  pub payload-n-16 : payloadStart alignment 16 32 ≡ 2048
+  -- the most stripes that 2,048 sectors hold, and one more
+  pub payload-n-3967 : payloadStart alignment 3967 32 ≡ 2048
+  pub payload-n-3968 : payloadStart alignment 3968 32 ≡ 4096
+  pub payload-64-n-1983 : payloadStart alignment 1983 64 ≡ 2048
+  pub payload-64-n-1984 : payloadStart alignment 1984 64 ≡ 4096
+  -- no format gives another start
+  pub two-starts : (n L : ℕ) → n ≤ 4000 → L ≤ 64 → (eqb (payloadStart alignment n L) 2048 || eqb (payloadStart alignment n L) 4096) ≡ true
+  -- for payload 2,048: 1,048,576 bytes pass, 1,048,575 give 1, 1,048,064 give 12, and so do 33,280, which passed for payload 65
+  pub length-1048576 : (a : FormatInput) (image : List ℕ) → Plain a → length image ≡ 1048576 → format built a image .code ≡ 0
+  pub length-1048575 : (a : FormatInput) (image : List ℕ) → Plain a → length image ≡ 1048575 → format built a image .code ≡ 1
+  pub length-1048064 : (a : FormatInput) (image : List ℕ) → Plain a → length image ≡ 1048064 → format built a image .code ≡ 12
+  pub length-33280 : (a : FormatInput) (image : List ℕ) → Plain a → length image ≡ 33280 → format built a image .code ≡ 12
   -- "Doubling: first byte 1 and zeros gives first byte 2; last byte 128 and zeros gives first byte 0x87"
   pub doubled-first : double (1 ∷ zeros 15) ≡ 2 ∷ zeros 15
   pub doubled-last : double (zeros 15 ++ 128 ∷ []) ≡ 0x87 ∷ zeros 15

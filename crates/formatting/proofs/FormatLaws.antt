@@ -22,13 +22,13 @@ use Rattle.rules.specs.Profiles.{profileAt, known}
 use Rattle.rules.specs.Layout.{payloadStart, slots}
 use Rattle.rules.specs.Facts.{checksumOf}
 use Rattle.rules.specs.Header.{sizeOk}
-use Rattle.rules.specs.Format.{FormatInput, printable, formatChecks, headFields, headerOf, formatted, settleFormat, format}
+use Rattle.rules.specs.Format.{FormatInput, payloadStartOf, printable, formatChecks, headFields, headerOf, formatted, settleFormat, format}
 use Rattle.rules.specs.Contracts.{DoesFormat}
 use Rattle.rules.proofs.ChecksLaws.{Pass, accepted}
 use Rattle.rules.proofs.RowLaws.{lawful-row}
 use Rattle.profiles.specs.declared.Profile.{Profile}
 use Rattle.profiles.specs.Rows.{hashOf, rows}
-use Rattle.profiles.specs.Suites.{aesXts, suiteOf, built}
+use Rattle.profiles.specs.Suites.{aesXts, suiteOf, alignment, built}
 use Rattle.profiles.specs.Records.{IsProfile}
 use Rattle.profiles.proofs.Lawful.{rows-ok}
 use Rattle.formatting.proofs.FieldsLaws.{names, nameWidths, numbers, numberWidths, number-widths, parts-written, blank, length-records}
@@ -45,7 +45,7 @@ module _ (a : FormatInput) (image : List ℕ) where
     pub key-most : length (a .key) ≤ 64
     pub count-least : 1 ≤ a .count
     pub uuid-is : length (a .uuid) ≡ 36
-    pub payload-ends : payloadStart (a .stripes) (length (a .key)) * 512 ≤ length image
+    pub payload-ends : payloadStart alignment (a .stripes) (length (a .key)) * 512 ≤ length image
 
   fit-of : Pass (formatChecks built a image) → Fit
   unfolding formatChecks sizeOk
@@ -80,14 +80,14 @@ module _ (a : FormatInput) (image : List ℕ) where
 
 -- the numbers with this checksum, as the code writes them of its row r
 abbrev numbersOf : FormatInput → Profile → List ℕ → List (List ℕ)
-numbersOf a r sum = numbers (payloadStart (a .stripes) (r .«key_bytes»)) (r .«key_bytes») sum (a .salt) (a .count) (padded 40 (a .uuid))
+numbersOf a r sum = numbers (payloadStart alignment (a .stripes) (r .«key_bytes»)) (r .«key_bytes») sum (a .salt) (a .count) (padded 40 (a .uuid))
 
 -- the three parts of its row are the header of the rules' row
 pub header-is : (a : FormatInput) (r : Profile) → IsProfile r (profileAt rows (a .profile)) → Widths (names r) nameWidths
     → length (a .salt) ≡ 32 → length (a .uuid) ≡ 36 → (h : Hash) → h ≡ hashOf (a .profile)
     → (sum h₁ h₂ h₃ : List ℕ) → length sum ≡ 20 → sum ≡ pbkdf2 (digestOf h) (a .key) (a .salt) (a .count) 20
     → h₁ ≡ splice (zeros 592) 0 (flatten (names r)) → h₂ ≡ splice h₁ 104 (flatten (numbersOf a r sum))
-    → h₃ ≡ splice h₂ 208 (flatten (map (blank (a .stripes) (r .«key_bytes»)) slots)) → h₃ ≡ headerOf (suiteOf (a .profile)) (profileAt rows (a .profile)) a
+    → h₃ ≡ splice h₂ 208 (flatten (map (blank (a .stripes) (r .«key_bytes»)) slots)) → h₃ ≡ headerOf built a
 unfolding headerOf headFields checksumOf suiteOf aesXts
 header-is a r is v t u h eh sum h₁ h₂ h₃ s e e₁ e₂ e₃ =
     let ms : List (List ℕ) = numbersOf a r sum in
@@ -105,12 +105,11 @@ clear-front : (image front : List ℕ) (E : ℕ) → E ≤ length image → fron
 unfolding splice
 clear-front image front E h e = rw (e, length-take-le E image h, zero-add, length-zeros)
 
-pub drive-written : (a : FormatInput) (image : List ℕ) → Fit a image → (start : ℕ) (front h after : List ℕ) → start ≡ payloadStart (a .stripes) (length (a .key))
-    → front ≡ zeros (length (take (start * 512) image)) → h ≡ headerOf (suiteOf (a .profile)) (profileAt rows (a .profile)) a
+pub drive-written : (a : FormatInput) (image : List ℕ) → Fit a image → (start : ℕ) (front h after : List ℕ) → start ≡ payloadStart alignment (a .stripes) (length (a .key))
+    → front ≡ zeros (length (take (start * 512) image)) → h ≡ headerOf built a
     → after ≡ splice (front ++ drop (start * 512) image) 0 h → after ≡ formatted built a image
 unfolding formatted
 drive-written a image f start front h after s c e w =
-    let p = profileAt rows (a .profile) in
-    let z : start ≡ payloadStart (a .stripes) (p .keyBytes) = s ∙ ap (payloadStart (a .stripes)) (f .key-is) in
+    let z : start ≡ payloadStartOf built a = s ∙ ap (payloadStart alignment (a .stripes)) (f .key-is) in
     w ∙ ap₂ (λ (x y : List ℕ). splice x 0 y) (clear-front image front (start * 512) (omega (arith, s, f .payload-ends)) c) e
-    ∙ ap (λ (x : ℕ). splice (splice image 0 (zeros (x * 512))) 0 (headerOf (suiteOf (a .profile)) p a)) z
+    ∙ ap (λ (x : ℕ). splice (splice image 0 (zeros (x * 512))) 0 (headerOf built a)) z

@@ -11,6 +11,7 @@ ghost use Rattle.rules.specs.Layout.{payloadStart, slots};
 ghost use Rattle.rules.specs.Facts.{disabled};
 ghost use Rattle.rules.specs.Header.{magic, version};
 ghost use Rattle.rules.specs.Format.{slotRecord};
+ghost use Rattle.profiles.specs.Suites.{alignment};
 
 // Magic, version and the three names.
 pub fn put_names(h: &mut [u8], p: Profile)
@@ -57,7 +58,7 @@ pub fn put_numbers(
     uuid: &[u8],
 )
     requires { ⌜ (length (now h) ≡ 592) × (stripes ≤ 4000) × («key_bytes» ≤ 64) × (length (now uuid) ≡ 36) ⌝ }
-    ensures { λ _. ⌜ now (h .exit) ≡ splice (now (h .entry)) 104 (flatten (be32 (payloadStart stripes «key_bytes») ∷ be32 «key_bytes»
+    ensures { λ _. ⌜ now (h .exit) ≡ splice (now (h .entry)) 104 (flatten (be32 (payloadStart alignment stripes «key_bytes») ∷ be32 «key_bytes»
         ∷ now (sum .entry) ∷ now (salt .entry) ∷ be32 count ∷ padded 40 (now (uuid .entry)) ∷ [])) ⌝ }
 {
     let field = uuid_field(uuid);

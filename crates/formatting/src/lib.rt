@@ -8,11 +8,11 @@ ghost use mathlib.Core.Bool.{true};
 ghost use Prim.Native.Nat.{_≤_};
 ghost use lib.ListN.{length};
 ghost use Rattle.rules.specs.Checks.{first};
-ghost use Rattle.rules.specs.Profiles.{known, profileAt};
+ghost use Rattle.rules.specs.Profiles.{known};
 ghost use Rattle.rules.specs.Format.{formatInput, formatChecks, headerOf, formatted};
 ghost use Rattle.rules.specs.Contracts.{DoesFormat};
 ghost use Rattle.profiles.specs.Rows.{rows};
-ghost use Rattle.profiles.specs.Suites.{suiteOf, built};
+ghost use Rattle.profiles.specs.Suites.{built};
 ghost use Rattle.header.specs.Refusals.{number};
 
 // The header of a new drive.
@@ -25,8 +25,7 @@ fn header_of(
     uuid: &[u8],
 ) -> [u8; 592]
     requires { ⌜ (known rows profile ≡ true) × (stripes ≤ 4000) × (length (now key) ≤ 64) × (1 ≤ count) × (length (now uuid) ≡ 36) ⌝ }
-    ensures { λ r. ⌜ r ≡ headerOf (suiteOf profile) (profileAt rows profile)
-        (formatInput profile stripes (now (key .entry)) (now (salt .entry)) count (now (uuid .entry))) ⌝ }
+    ensures { λ r. ⌜ r ≡ headerOf built (formatInput profile stripes (now (key .entry)) (now (salt .entry)) count (now (uuid .entry))) ⌝ }
 {
     let p = profiles::profile_at(profile);
     let hash = profiles::hash_of(profile);

@@ -15,14 +15,14 @@ use Rattle.octets.proofs.PartsLaws.{Widths, length-flatten}
 use Rattle.suite.specs.Suite.{LawfulSuite}
 use Rattle.rules.specs.Profiles.{Table}
 use Rattle.rules.specs.Lawful.{LawfulRow}
-use Rattle.rules.specs.Layout.{areaStart, payloadStart}
+use Rattle.rules.specs.Layout.{areaStart, areasEnd}
 use Rattle.rules.specs.Facts.{enabled, disabled, checksumOf}
 use Rattle.rules.specs.Step.{recordHead}
-use Rattle.rules.specs.Format.{FormatInput, headFields, slotRecord}
+use Rattle.rules.specs.Format.{FormatInput, payloadStartOf, headFields, slotRecord}
 use Rattle.rules.proofs.FormatLaws.{length-slotRecord}
 use Rattle.ledger.specs.Drive.{SlotContent, Drive, mapFrom, rowOf, keyBytesOf, suiteFor, gapBytes, areaRoom, recordOf, roomOf, imageParts, driveImage}
 use Rattle.ledger.proofs.PartsLaws.{offset, part-is, inside, parts-drop, length-rows, length-uniform, row, RowsTo, length-mapFrom, getD-mapFrom}
-use Rattle.ledger.proofs.LayoutLaws.{stride, start-is, payload-is, room-inner, room-last, room-fits, area-ends}
+use Rattle.ledger.proofs.LayoutLaws.{stride, start-is, end-is, room-inner, room-last, room-fits, area-ends}
 use Rattle.ledger.proofs.AllLaws.{All, all-get}
 
 -- ---- good drives: those that format and the calls make
@@ -37,6 +37,8 @@ pub record GoodInput (table : Table) (a : FormatInput) : Type 0 where
   pub count-least : 1 ≤ a .count
   pub count-most : a .count < 2 ^ 32
   pub uuid-is : length (a .uuid) ≡ 36
+  pub payload-least : areasEnd (a .stripes) (keyBytesOf table a) ≤ payloadStartOf table a
+  pub payload-most : payloadStartOf table a < 2 ^ 32
 
 -- of a drive with n stripes of L bytes
 pub record GoodContent (n L : ℕ) (c : SlotContent) : Type 0 where
@@ -60,15 +62,11 @@ pub record GoodDrive (table : Table) (d : Drive) : Type 0 where
 
 -- ---- the header's fields
 
--- the fields of a drive's header
-abbrev pub headOf : Table → FormatInput → List (List ℕ)
-headOf table a = headFields (suiteFor table a) (rowOf table a) a
-
--- their widths: 208 bytes
+-- the widths of the header's fields: 208 bytes
 abbrev pub headWidths : List ℕ
 headWidths = 6 ∷ 2 ∷ 32 ∷ 32 ∷ 32 ∷ 4 ∷ 4 ∷ 20 ∷ 32 ∷ 4 ∷ 40 ∷ []
 
-pub head-widths : (table : Table) (a : FormatInput) (g : GoodInput table a) → Widths (headOf table a) headWidths
+pub head-widths : (table : Table) (a : FormatInput) (g : GoodInput table a) → Widths (headFields table a) headWidths
 unfolding headFields checksumOf
 head-widths table a g =
     let r = g .row in
@@ -125,6 +123,10 @@ module _ (table : Table) (d : Drive) (g : GoodDrive table d) where
   abbrev pub L : ℕ
   L = keyBytesOf table (d .input)
 
+  -- where its payload stands, in sectors
+  abbrev pub start : ℕ
+  start = payloadStartOf table (d .input)
+
   pub content-ok : (k : ℕ) → k < 8 → GoodContent n L (contentAt d k)
   content-ok k h = all-get (GoodContent n L) (d .contents) k noContent (g .contents-ok) (omega (arith, g .eight))
 
@@ -134,37 +136,37 @@ module _ (table : Table) (d : Drive) (g : GoodDrive table d) where
 
   -- the eight areas, each with the zeros behind it
   abbrev pub rooms : List (List ℕ)
-  rooms = mapFrom (roomOf n L) 0 (d .contents)
+  rooms = mapFrom (roomOf n L start) 0 (d .contents)
 
   pub record-is : (k : ℕ) → k < 8 → getD records k [] ≡ recordOf n L k (contentAt d k)
   record-is k h = getD-mapFrom _ 0 (d .contents) k noContent [] (omega (arith, g .eight)) ∙ rw zero-add
 
-  pub room-is : (k : ℕ) → k < 8 → getD rooms k [] ≡ roomOf n L k (contentAt d k)
+  pub room-is : (k : ℕ) → k < 8 → getD rooms k [] ≡ roomOf n L start k (contentAt d k)
   room-is k h = getD-mapFrom _ 0 (d .contents) k noContent [] (omega (arith, g .eight)) ∙ rw zero-add
 
   pub length-record : (k : ℕ) → k < 8 → length (getD records k []) ≡ 48
   unfolding recordOf
   length-record k h = ap length (record-is k h) ∙ length-slotRecord _ _ _ _ _ k ((content-ok k h) .salt-is)
 
-  pub length-room : (k : ℕ) → k < 8 → length (getD rooms k []) ≡ areaRoom n L k
+  pub length-room : (k : ℕ) → k < 8 → length (getD rooms k []) ≡ areaRoom n L start k
   unfolding roomOf
   length-room k h =
-      let q = room-fits n L k h in
+      let q = room-fits n L start (g .input-ok .payload-least) k h in
       let a : List ℕ = (contentAt d k) .area in
-      ap length (room-is k h) ∙ length-append a (zeros (areaRoom n L k - n * L)) ∙ omega (arith, content-ok k h .area-is, length-zeros (areaRoom n L k - n * L))
+      ap length (room-is k h) ∙ length-append a (zeros (areaRoom n L start k - n * L)) ∙ omega (arith, content-ok k h .area-is, length-zeros (areaRoom n L start k - n * L))
 
   pub length-records : length (flatten records) ≡ 384
   length-records = length-rows records 48 7 48 (length-mapFrom _ 0 (d .contents) ∙ g .eight) (λ j h. length-record j (omega arith)) (length-record 7 (omega arith))
 
   -- the bytes from the first area to the payload
   abbrev pub areaBytes : ℕ
-  areaBytes = payloadStart n L * 512 - 4096
+  areaBytes = start * 512 - 4096
 
   pub length-rooms : length (flatten rooms) ≡ areaBytes
   length-rooms =
       length-rows rooms (stride n L * 512) 7 _ (length-mapFrom _ 0 (d .contents) ∙ g .eight)
-      (λ j h. length-room j (omega arith) ∙ room-inner _ _ j h) (length-room 7 (omega arith) ∙ room-last _ _)
-      ∙ (let e = payload-is n L in omega arith)
+      (λ j h. length-room j (omega arith) ∙ room-inner _ _ _ j h) (length-room 7 (omega arith) ∙ room-last _ _ _)
+      ∙ (let e = end-is n L in let s = start-is n L 7 in omega (arith, g .input-ok .payload-least))
 
   pub sector-rows : (k : ℕ) → k ≤ length (d .sectors) → RowsTo (d .sectors) 512 k
   sector-rows k h j i = all-get Sector (d .sectors) j [] (g .sectors-ok) (omega arith)
@@ -179,24 +181,24 @@ module _ (table : Table) (d : Drive) (g : GoodDrive table d) where
   pub part-widths : Widths (imageParts table d) widths
   unfolding imageParts
   part-widths = (
-    length-flatten (headOf table (d .input)) headWidths (head-widths table (d .input) (g .input-ok)),
+    length-flatten (headFields table (d .input)) headWidths (head-widths table (d .input) (g .input-ok)),
     (length-records, (length-zeros gapBytes, (length-rooms, (length-sectors, tt)))),
   )
 
-  pub length-driveImage : length (driveImage table d) ≡ (payloadStart n L + length (d .sectors)) * 512
+  pub length-driveImage : length (driveImage table d) ≡ (start + length (d .sectors)) * 512
   unfolding driveImage
-  length-driveImage = let e = payload-is n L in length-flatten (imageParts table d) widths part-widths ∙ omega arith
+  length-driveImage = let e = end-is n L in length-flatten (imageParts table d) widths part-widths ∙ omega (arith, g .input-ok .payload-least)
 
   -- ---- what stands where
 
   -- field i of the header
   pub header-field : (i : ℕ) → i < 11 → offset headWidths i + getD headWidths i 0 ≤ 208
-      → part (driveImage table d) (offset headWidths i) (getD headWidths i 0) ≡ getD (headOf table (d .input)) i []
+      → part (driveImage table d) (offset headWidths i) (getD headWidths i 0) ≡ getD (headFields table (d .input)) i []
   unfolding driveImage imageParts headFields
   header-field i h k =
       ap (λ x. part (driveImage table d) x (getD headWidths i 0)) (sym (zero-add (offset headWidths i)))
       ∙ inside (imageParts table d) widths part-widths 0 (offset headWidths i) (getD headWidths i 0) (omega arith) k
-      ∙ part-is (headOf table (d .input)) headWidths (head-widths table (d .input) (g .input-ok)) i h
+      ∙ part-is (headFields table (d .input)) headWidths (head-widths table (d .input) (g .input-ok)) i h
 
   pub record-at : (k : ℕ) → k < 8 → part (driveImage table d) (208 + k * 48) 48 ≡ recordOf n L k (contentAt d k)
   unfolding driveImage imageParts
@@ -214,19 +216,19 @@ module _ (table : Table) (d : Drive) (g : GoodDrive table d) where
       let s = start-is n L k in
       let e : areaStart n L k * 512 ≡ 4096 + (k * W + 0) = omega arith in
       let c = length-room k h in
-      let r = room-fits n L k h in
-      let i = length-mapFrom (roomOf n L) 0 (d .contents) in
-      let b : k * W + 0 + n * L ≤ areaBytes = let q = area-ends n L k h in omega arith in
+      let r = room-fits n L start (g .input-ok .payload-least) k h in
+      let i = length-mapFrom (roomOf n L start) 0 (d .contents) in
+      let b : k * W + 0 + n * L ≤ areaBytes = let q = area-ends n L start (g .input-ok .payload-least) k h in omega arith in
       ap (λ x. part (driveImage table d) x (n * L)) e
       ∙ inside (imageParts table d) widths part-widths 3 (k * W + 0) (n * L) (omega arith) b
-      ∙ row rooms W k 0 (n * L) (λ j i. length-room j (omega arith) ∙ room-inner n L j (omega arith)) (omega (arith, g .eight)) (omega arith)
+      ∙ row rooms W k 0 (n * L) (λ j i. length-room j (omega arith) ∙ room-inner n L start j (omega arith)) (omega (arith, g .eight)) (omega arith)
       ∙ ap (λ x. part x 0 (n * L)) (room-is k h)
       ∙ (part-here ((contentAt d k) .area) _ 0 (n * L) (omega (arith, (content-ok k h) .area-is)))
       ∙ part-all _ (n * L) ((content-ok k h) .area-is)
 
-  pub payload-at : drop (payloadStart n L * 512) (driveImage table d) ≡ flatten (d .sectors)
+  pub payload-at : drop (start * 512) (driveImage table d) ≡ flatten (d .sectors)
   unfolding driveImage imageParts flatten
   payload-at =
-      let e = payload-is n L in
-      let m : payloadStart n L * 512 ≡ offset widths 4 = omega arith in
+      let e = end-is n L in
+      let m : start * 512 ≡ offset widths 4 = omega (arith, g .input-ok .payload-least) in
       ap (λ x. drop x (driveImage table d)) m ∙ parts-drop (imageParts table d) widths part-widths 4 (omega arith) ∙ append-nil (flatten (d .sectors))

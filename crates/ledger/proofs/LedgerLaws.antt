@@ -12,11 +12,11 @@ use Rattle.octets.proofs.OctetsLaws.{length-zeros, str-cast, str-take, str-drop
 use Rattle.suite.specs.Suite.{Suite}
 use Rattle.suite.specs.Units.{inUnits}
 use Rattle.rules.specs.Profiles.{Table}
-use Rattle.rules.specs.Layout.{areaStart, payloadStart}
+use Rattle.rules.specs.Layout.{areaStart}
 use Rattle.rules.specs.Facts.{Facts, SlotInput, slotOf, checksumOf, factsOf}
 use Rattle.rules.specs.Header.{headerChecks}
 use Rattle.rules.specs.Step.{written, recordHead, slotWrites}
-use Rattle.rules.specs.Format.{FormatInput}
+use Rattle.rules.specs.Format.{FormatInput, payloadStartOf}
 use Rattle.rules.proofs.ChecksLaws.{Pass}
 use Rattle.ledger.specs.Drive.{SlotContent, mapFrom, keyBytesOf, suiteFor, driveImage, driveFacts}
 use Rattle.ledger.specs.Ledger.{Ledger, SlotEntry, empty, live, SectorEntry, atFormat, lastWriting, stateOf, countOf, saltOf, areaOf}
@@ -200,7 +200,7 @@ module _ (table : Table) (l : Ledger) (g : GoodLedger table l) (key : List ℕ) 
             (all-drop P (u + length (writings key n buffer)) (l .sectorEntries) (g .sectors-ok)));
       }
 
-  pub payload-written : splice (ledgerImage table l) (payloadStart (l .input .stripes) (keyBytesOf table (l .input)) * 512 + u * 512) (inUnits (suiteFor table (l .input) .encipher key) u buffer)
+  pub payload-written : splice (ledgerImage table l) (payloadStartOf table (l .input) * 512 + u * 512) (inUnits (suiteFor table (l .input) .encipher key) u buffer)
       ≡ ledgerImage table (setSectors l (splice (l .sectorEntries) u (writings key n buffer)))
   unfolding ledgerImage ledgerDrive setSectors setBytes
   payload-written =
@@ -209,7 +209,7 @@ module _ (table : Table) (l : Ledger) (g : GoodLedger table l) (key : List ℕ) 
       let wl = length-writings key n buffer in
       let il = length-mapFrom (sectorOf S) u ws in
       let sl = length-mapFrom (sectorOf S) 0 (l .sectorEntries) in
-      ap (λ x. splice (ledgerImage table l) (payloadStart (l .input .stripes) (keyBytesOf table (l .input)) * 512 + u * 512) x) (enciphered-are S key u n buffer (b .len))
+      ap (λ x. splice (ledgerImage table l) (payloadStartOf table (l .input) * 512 + u * 512) x) (enciphered-are S key u n buffer (b .len))
       ∙ payload-put table (ledgerDrive table l) (drive-good table l g) u (mapFrom (sectorOf S) u ws)
       (sectors-good table (l .input) (g .input-ok) u ws (writings-good table (l .input) key n buffer h m b)) (omega arith)
       ∙ ap (λ x. driveImage table (record { input = l .input; contents = map (contentIn table (l .input)) (l .slotEntries); sectors = x }))

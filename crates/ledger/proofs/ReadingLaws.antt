@@ -13,14 +13,14 @@ use Rattle.octets.specs.Splice.{part}
 use Rattle.octets.proofs.OctetsLaws.{same-refl}
 use Rattle.rules.specs.Checks.{every}
 use Rattle.rules.specs.Profiles.{Table, profileAt}
-use Rattle.rules.specs.Layout.{areaStart, payloadStart, slots}
+use Rattle.rules.specs.Layout.{areaStart, areasEnd, slots}
 use Rattle.rules.specs.Facts.{SlotFacts, slotAt, profileIn, factsOf}
 use Rattle.rules.specs.Header.{magic, version, sizeOk, recordOk, slotOk, areaEnd, inside, apart, allApart, soundChecks, headerChecks}
-use Rattle.rules.specs.Format.{headFields}
+use Rattle.rules.specs.Format.{payloadStartOf, headFields}
 use Rattle.rules.proofs.ChecksLaws.{Pass}
 use Rattle.ledger.specs.Drive.{SlotContent, Drive, mapFrom, keyBytesOf, recordOf, driveImage, contentFacts, driveFacts}
 use Rattle.ledger.proofs.PartsLaws.{upto, tab}
-use Rattle.ledger.proofs.LayoutLaws.{start-is, bytes-fit, sectors-fit, payload-is, payload-most, start-most, area-ends}
+use Rattle.ledger.proofs.LayoutLaws.{start-is, bytes-fit, sectors-fit, end-is, start-most, area-ends}
 use Rattle.ledger.proofs.DriveLaws.{GoodDrive, GoodContent, be32-field, recordFields, record-field, noContent, contentAt}
 use Rattle.ledger.proofs.DriveLaws.{content-ok, header-field, record-at, area-at, payload-at, length-driveImage}
 
@@ -60,9 +60,9 @@ module _ (table : Table) (d : Drive) (g : GoodDrive table d) where
   unfolding headFields
   key-read = be32-field image 108 L (header-field table d g 6 (omega arith) (omega arith)) (omega (arith, g .input-ok .row .key-most))
 
-  payload-read : be32At image 104 ≡ payloadStart n L
+  payload-read : be32At image 104 ≡ payloadStartOf table (d .input)
   unfolding headFields
-  payload-read = be32-field image 104 (payloadStart n L) (header-field table d g 5 (omega arith) (omega arith)) (payload-most n L (g .input-ok .stripes-most) (g .input-ok .row .key-most))
+  payload-read = be32-field image 104 (payloadStartOf table (d .input)) (header-field table d g 5 (omega arith) (omega arith)) (g .input-ok .payload-most)
 
   profile-read : profileIn (table .rows) image ≡ d .input .profile
   unfolding headFields profileIn
@@ -118,14 +118,14 @@ slot-ok : (n L k : ℕ) (c : SlotContent) → 1 ≤ n → n ≤ 4000 → GoodCon
 unfolding slotOk recordOk contentFacts
 slot-ok n L k c h i g = rw (g .state-is, le-leb _ _ h, le-leb _ _ i, g .enabled-count)
 
-slot-inside : (L n k : ℕ) (c : SlotContent) → k < 8 → inside L (payloadStart n L) (contentFacts n L k c) ≡ true
+slot-inside : (L n payload k : ℕ) (c : SlotContent) → areasEnd n L ≤ payload → k < 8 → inside L payload (contentFacts n L k c) ≡ true
 unfolding inside areaEnd contentFacts
-slot-inside L n k c h =
+slot-inside L n payload k c after h =
     let a = start-is n L k in
-    let b = payload-is n L in
-    let e = area-ends n L k h in
+    let b = end-is n L in
+    let e = area-ends n L payload after k h in
     let q : 2 ≤ areaStart n L k = omega arith in
-    let r : areaStart n L k * 512 + n * L ≤ payloadStart n L * 512 = omega arith in
+    let r : areaStart n L k * 512 + n * L ≤ payload * 512 = omega arith in
     rw (le-leb _ _ q, le-leb _ _ r)
 
 module _ (table : Table) (d : Drive) (g : GoodDrive table d) where
@@ -136,14 +136,14 @@ module _ (table : Table) (d : Drive) (g : GoodDrive table d) where
       let L = keyBytesOf table (d .input) in
       let o = g .input-ok in
       let e = length-driveImage table d g in
-      let fit : payloadStart n L * 512 ≤ length (driveImage table d) = omega arith in (
+      let fit : payloadStartOf table (d .input) * 512 ≤ length (driveImage table d) = omega arith in (
         rw (ne-eqb (d .input .count) 0 (λ e. omega (arith, o .count-least)))
             (every-content slotOk _ 0 (d .contents) (λ k h. slot-ok n L (0 + k) _ (o .stripes-least) (o .stripes-most) (content-ok table d g k (omega (arith, g .eight))))),
         (
           rw (
             le-leb _ _ fit,
-            every-content (inside L (payloadStart n L)) (contentFacts n L) 0 (d .contents)
-                (λ k h. slot-inside L n (0 + k) (getD (d .contents) k noContent) (omega (arith, g .eight))),
+            every-content (inside L (payloadStartOf table (d .input))) (contentFacts n L) 0 (d .contents)
+                (λ k h. slot-inside L n _ (0 + k) (getD (d .contents) k noContent) (o .payload-least) (omega (arith, g .eight))),
           )
               (all-apart L n 0 (d .contents)),
           tt,
@@ -155,8 +155,8 @@ module _ (table : Table) (d : Drive) (g : GoodDrive table d) where
   header-passes =
       let f = header-field table d g in
       let e = length-driveImage table d g in
-      let b = payload-is (d .input .stripes) (keyBytesOf table (d .input)) in
-      let big : 1024 ≤ length (driveImage table d) = omega arith in
+      let b = end-is (d .input .stripes) (keyBytesOf table (d .input)) in
+      let big : 1024 ≤ length (driveImage table d) = omega (arith, g .input-ok .payload-least) in
       let whole : length (driveImage table d) % 512 ≡ 0 = omega arith in (
         rw (le-leb _ _ big, eq-eqb _ _ whole),
         (

@@ -18,18 +18,18 @@ use Rattle.rules.specs.Checks.{first}
 use Rattle.suite.specs.Suite.{Suite}
 use Rattle.rules.specs.Profiles.{Table}
 use Rattle.rules.specs.Lawful.{LawfulTable}
-use Rattle.rules.specs.Layout.{payloadStart, slots}
+use Rattle.rules.specs.Layout.{slots}
 use Rattle.rules.specs.Facts.{disabled}
 use Rattle.rules.specs.Header.{sizeOk}
-use Rattle.rules.specs.Format.{FormatInput, printable, formatChecks, slotRecord, headerOf, formatted, settleFormat, format}
+use Rattle.rules.specs.Format.{FormatInput, payloadStartOf, printable, formatChecks, headFields, slotRecord, headerOf, formatted, settleFormat, format}
 use Rattle.rules.proofs.ChecksLaws.{Pass, accepted}
 use Rattle.rules.proofs.RowLaws.{lawful-row}
-use Rattle.ledger.specs.Drive.{Drive, mapFrom, rowOf, keyBytesOf, suiteFor, gapBytes, recordOf, roomOf, imageParts, driveImage}
+use Rattle.ledger.specs.Drive.{Drive, mapFrom, rowOf, keyBytesOf, gapBytes, recordOf, roomOf, imageParts, driveImage}
 use Rattle.ledger.specs.Ledger.{empty, stateOf, countOf, saltOf, areaOf, contentOf, sectorOf, ledgerDrive, ledgerImage, sectorsIn, startLedger}
 use Rattle.ledger.specs.Demand3.{FormatTyped}
-use Rattle.ledger.proofs.LayoutLaws.{payload-is}
+use Rattle.ledger.proofs.LayoutLaws.{end-is, payload-least, payload-most}
 use Rattle.ledger.proofs.AllLaws.{All}
-use Rattle.ledger.proofs.DriveLaws.{GoodInput, GoodDrive, headOf, headWidths, head-widths, records, rooms, length-records, length-rooms, areaBytes}
+use Rattle.ledger.proofs.DriveLaws.{GoodInput, GoodDrive, headWidths, head-widths, records, rooms, length-records, length-rooms, areaBytes}
 use Rattle.ledger.proofs.LedgerLaws.{GoodSector, GoodLedger, contentIn, drive-good}
 
 -- ---- zeros
@@ -81,7 +81,7 @@ module _ (table : Table) (lawful : LawfulTable table) (a : FormatInput) (typed :
 
   -- its payload start, in sectors
   abbrev start : ℕ
-  start = payloadStart (a .stripes) L
+  start = payloadStartOf table a
 
   checked : (first (formatChecks table a image) ≡ 0) × (format table a image .image ≡ formatted table a image)
   unfolding format
@@ -108,6 +108,8 @@ module _ (table : Table) (lawful : LawfulTable table) (a : FormatInput) (typed :
         count-least = omega (arith, r .checksum-count);
         count-most = typed .count-most;
         uuid-is = eqb-true _ _ (u .0);
+        payload-least = payload-least (table .alignment) _ _ (lawful .alignment-least);
+        payload-most = payload-most _ _ (leb-true _ _ (n .1)) (r .key-most) (table .alignment) (lawful .alignment-least) (lawful .alignment-most);
       }
 
   room : start * 512 ≤ length image
@@ -140,7 +142,7 @@ module _ (table : Table) (lawful : LawfulTable table) (a : FormatInput) (typed :
   abbrev G : GoodDrive table D
   G = drive-good table (startLedger table a image) start-good
 
-  room-zero : (k : ℕ) → Zero (roomOf (a .stripes) L k (contentIn table a (empty (zeros (a .stripes * L)))))
+  room-zero : (k : ℕ) → Zero (roomOf (a .stripes) L start k (contentIn table a (empty (zeros (a .stripes * L)))))
   unfolding roomOf contentOf areaOf
   room-zero k = zero-append _ _ (zero-zeros _) (zero-zeros _)
 
@@ -155,21 +157,21 @@ module _ (table : Table) (lawful : LawfulTable table) (a : FormatInput) (typed :
   unfolding startLedger ledgerDrive mapFrom recordOf contentOf stateOf countOf saltOf
   records-are = refl
 
-  length-header : length (headerOf (suiteFor table a) (rowOf table a) a) ≡ 592
+  length-header : length (headerOf table a) ≡ 592
   unfolding headerOf startLedger ledgerDrive
   length-header =
-      length-append (flatten (headOf table a)) _
-      ∙ ap₂ (λ x y. x + y) (length-flatten (headOf table a) headWidths (head-widths table a input-good)) (ap (λ x. length (flatten x)) records-are ∙ length-records table D G)
+      length-append (flatten (headFields table a)) _
+      ∙ ap₂ (λ x y. x + y) (length-flatten (headFields table a) headWidths (head-widths table a input-good)) (ap (λ x. length (flatten x)) records-are ∙ length-records table D G)
 
   pub format-starts : format table a image .image ≡ ledgerImage table (startLedger table a image)
   unfolding formatted headerOf ledgerImage driveImage imageParts startLedger ledgerDrive flatten
   format-starts =
       let A = areaBytes table D G in
       let rest = drop (start * 512) image in
-      let head = flatten (headOf table a) in
+      let head = flatten (headFields table a) in
       let recs = flatten (map (slotRecord (a .stripes) L disabled 0 (zeros 32)) slots) in
-      let e = payload-is (a .stripes) L in
-      let q : start * 512 ≡ 592 + (gapBytes + A) = omega arith in
+      let e = end-is (a .stripes) L in
+      let q : start * 512 ≡ 592 + (gapBytes + A) = omega (arith, input-good .payload-least) in
       checked .1
       ∙ ap (λ x. splice x 0 (head ++ recs)) (splice-front image (zeros (start * 512)) ∙ ap (λ x. zeros (start * 512) ++ drop x image) (length-zeros (start * 512)))
       ∙ splice-front (zeros (start * 512) ++ rest) (head ++ recs)

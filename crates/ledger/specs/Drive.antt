@@ -6,9 +6,9 @@ use lib.Dec.{ltb}
 use Rattle.octets.specs.Octets.{zeros}
 use Rattle.suite.specs.Suite.{Suite}
 use Rattle.rules.specs.Profiles.{Profile, Table, profileAt}
-use Rattle.rules.specs.Layout.{areaStart, payloadStart}
+use Rattle.rules.specs.Layout.{areaStart}
 use Rattle.rules.specs.Facts.{Facts, SlotFacts, checksumOf}
-use Rattle.rules.specs.Format.{FormatInput, headFields, slotRecord}
+use Rattle.rules.specs.Format.{FormatInput, payloadStartOf, headFields, slotRecord}
 
 -- what a slot's record and its area hold; the record's start and stripes are format's
 pub record SlotContent : Type 0 where
@@ -45,17 +45,17 @@ suiteFor table a = table .suiteOf (a .profile)
 
 -- ---- the image
 
--- the bytes from the start of area k, from 0, to the next area's start, or to the payload's
-unfoldable pub areaRoom : ℕ → ℕ → ℕ → ℕ
-areaRoom n L k = (cond (ltb k 7) (areaStart n L (suc k)) (payloadStart n L) - areaStart n L k) * 512
+-- the bytes from the start of area k, from 0, to the next area's start, or to the payload's, which is given
+unfoldable pub areaRoom : ℕ → ℕ → ℕ → ℕ → ℕ
+areaRoom n L payload k = (cond (ltb k 7) (areaStart n L (suc k)) payload - areaStart n L k) * 512
 
 -- the record of slot k, from 0
 unfoldable pub recordOf : ℕ → ℕ → ℕ → SlotContent → List ℕ
 recordOf n L k c = slotRecord n L (c .state) (c .count) (c .salt) k
 
 -- the area of slot k, from 0, with the zeros behind its n × L bytes
-unfoldable pub roomOf : ℕ → ℕ → ℕ → SlotContent → List ℕ
-roomOf n L k c = c .area ++ zeros (areaRoom n L k - n * L)
+unfoldable pub roomOf : ℕ → ℕ → ℕ → ℕ → SlotContent → List ℕ
+roomOf n L payload k c = c .area ++ zeros (areaRoom n L payload k - n * L)
 
 -- the bytes from the header's end, 592, to the first area, which stands at sector 8
 abbrev pub gapBytes : ℕ
@@ -66,10 +66,10 @@ unfoldable pub imageParts : Table → Drive → List (List ℕ)
 imageParts table d =
     let a = d .input in
     let L = keyBytesOf table a in
-    flatten (headFields (suiteFor table a) (rowOf table a) a)
+    flatten (headFields table a)
     ∷ flatten (mapFrom (recordOf (a .stripes) L) 0 (d .contents))
     ∷ zeros gapBytes
-    ∷ flatten (mapFrom (roomOf (a .stripes) L) 0 (d .contents))
+    ∷ flatten (mapFrom (roomOf (a .stripes) L (payloadStartOf table a)) 0 (d .contents))
     ∷ flatten (d .sectors)
     ∷ []
 
@@ -92,7 +92,7 @@ driveFacts table d =
     record {
       profile = rowOf table a;
       suite = suiteFor table a;
-      payloadAt = payloadStart (a .stripes) L;
+      payloadAt = payloadStartOf table a;
       checksum = checksumOf (suiteFor table a) (a .salt) (a .count) (a .key);
       checksumSalt = a .salt;
       checksumCount = a .count;

@@ -9,10 +9,9 @@ use Rattle.octets.specs.Splice.{splice}
 use Rattle.suite.specs.Suite.{Suite}
 use Rattle.rules.specs.Checks.{first}
 use Rattle.rules.specs.Profiles.{Table}
-use Rattle.rules.specs.Layout.{payloadStart}
 use Rattle.rules.specs.Facts.{Facts, SlotInput, enabled, disabled, keyMaterial, candidate}
 use Rattle.rules.specs.Calls.{Call, add, change, revoke, openSlot, openAny, read, write, checks, Answer, answer, refused}
-use Rattle.rules.specs.Format.{FormatInput}
+use Rattle.rules.specs.Format.{FormatInput, payloadStartOf}
 use Rattle.ledger.specs.Drive.{SlotContent, Drive, mapFrom, keyBytesOf, suiteFor, driveImage, driveFacts}
 
 -- "for each slot empty (zeros or the last filler), or live with key, passphrase, salt, count and random stripes"
@@ -146,7 +145,7 @@ sectorsIn (suc m) x = atFormat (take 512 x) ∷ sectorsIn m (drop 512 x)
 unfoldable pub startLedger : Table → FormatInput → List ℕ → Ledger
 startLedger table a image =
     let L = keyBytesOf table a in
-    let start = payloadStart (a .stripes) L in
+    let start = payloadStartOf table a in
     record {
       input = a;
       slotEntries = replicate 8 (empty (zeros (a .stripes * L)));

@@ -3,6 +3,7 @@ use mathlib.Core.Path.{_≡_, refl}
 use mathlib.Core.List.{List}
 use mathlib.Core.Bool.{true}
 use Prim.Native.Nat.{ℕ, _-_, _*_, _≤_}
+use native.Mathlib.Omega.{arith}
 use Rattle.octets.specs.Octets.{Str, zeros, same}
 use Rattle.digest.specs.Digest.{Digest, LawfulDigest}
 use Rattle.hash.specs.declared.Hash.{Hash}
@@ -43,7 +44,7 @@ unfolding suiteOf
 lawful k L = aesXts-lawful (digestOf (hashOf k)) (hash.lawful (hashOf k)) L
 
 pub built-lawful : LawfulTable built
-built-lawful = record { rows-ok = rows-ok; suites = λ k h. lawful k _ }
+built-lawful = record { rows-ok = rows-ok; suites = λ k h. lawful k _; alignment-least = omega arith; alignment-most = omega arith }
 
 -- merging undoes splitting with each hash
 merge-split-hash : (h : Hash) (L n : ℕ) → 1 ≤ n → (random key : List ℕ) → Str ((n - 1) * L) random → Str L key

@@ -1,5 +1,5 @@
 -- The suite of each built profile (01, "Ciphers and hashes"; 02, Wish 1: "HMAC, PBKDF2 and the splitter take the hash from the header"),
--- and the table that the calls use.
+-- the alignment of a payload start (02, Wish 4), and the table that the calls use.
 use Prim.Native.Nat.{ℕ}
 use Rattle.digest.specs.Digest.{Digest}
 use Rattle.hash.specs.Hash.{digestOf}
@@ -18,6 +18,10 @@ aesXts H = record { derive = pbkdf2 H; encipher = xtsEncrypt; decipher = xtsDecr
 unfoldable pub suiteOf : ℕ → Suite
 suiteOf k = aesXts (digestOf (hashOf k))
 
+-- 02, Wish 4: "the payload on a multiple of 2,048 sectors", a mebibyte
+abbrev pub alignment : ℕ
+alignment = 2048
+
 -- the table of profiles that the calls use
 abbrev pub built : Table
-built = record { rows = rows; suiteOf = suiteOf }
+built = record { rows = rows; suiteOf = suiteOf; alignment = alignment }

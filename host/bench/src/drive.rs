@@ -27,7 +27,7 @@ impl Drive {
     pub fn new(profile: Profile, stripes: u32, count: u32, units: usize) -> Result<Drive, String> {
         let key: Vec<u8> = (0..profile.key_bytes() as u8).collect();
         let random = vec![0x11; (stripes as usize - 1) * key.len()];
-        let start = if stripes == 1 { 65 } else { 4037 };
+        let start = if stripes == 1 { 2048 } else { 4096 };
         let mut image = vec![0x5a; (start + units) * 512];
         accepted("format", raw::format(&mut image, profile.number(), stripes, &key, &SALT, 1000, &[b'u'; 36]))?;
         accepted("add", raw::add(&mut image, 1, &key, PASSPHRASE, &SALT, count, &random))?;

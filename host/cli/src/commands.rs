@@ -34,12 +34,38 @@ pub fn format(given: &Given) -> Result<(), Failure> {
     let salt = random::salt()?;
     let checksum_count = asked_for.unwrap_or(rate::checksum_count(count));
     let input = FormatInput::new(profile, &key, &salt, checksum_count, &uuid).stripes(stripes);
-    image.drive().format(&input).map_err(Failure::refused)?;
+    image.drive().format(&input).map_err(|refusal| of_format(refusal, &input, &image))?;
     confirm_loss(given, &image)?;
     let passphrase = passphrase::new(&source, "Passphrase for the new drive: ")?;
     let header = add_key(&mut image, FIRST_SLOT, &key, &passphrase, count)?;
     image.write_back(&stages::of_format(&header))?;
-    say(format!("made a drive with the UUID {uuid}; key slot {FIRST_SLOT} holds the passphrase"))
+    let payload = payload_shown(payload_units(&image)?);
+    say(format!("made a drive with the UUID {uuid}; key slot {FIRST_SLOT} holds the passphrase\n{payload}"))
+}
+
+// A refusal of a format. Of a file that is too short it says how long it must be.
+fn of_format(refusal: Refusal, input: &FormatInput, image: &ImageFile) -> Failure {
+    let least = match refusal {
+        Refusal::ShortImage => small::before_payload(input.profile, input.stripes),
+        other => Err(other),
+    };
+    let Ok(least) = least else { return Failure::refused(refusal) };
+    let sentence = format!(
+        "{} has {} bytes, and with this key size and these stripes a drive needs {} MiB ({least} bytes) and its payload; \
+         make it longer, or use a larger one",
+        shown(image.path()),
+        image.bytes().len(),
+        least >> 20
+    );
+    Failure::refused_because(refusal, sentence)
+}
+
+// How long a payload is.
+fn payload_shown(units: u64) -> String {
+    match units {
+        0 => "the payload is empty; a longer file or a larger device has room for data".into(),
+        units => format!("the payload has {} of 512 bytes", transfer::counted(units)),
+    }
 }
 
 // The profile that was asked for. The hash is sha1 unless another is named: a reader may know no other.
@@ -292,6 +318,7 @@ fn of_used_slot(refusal: Refusal, slot: u8, slots: &Slots) -> Failure {
 
 fn beyond(refusal: Refusal, payload: u64) -> Failure {
     match refusal {
+        Refusal::BadRange if payload == 0 => Failure::refused_because(refusal, payload_shown(payload)),
         Refusal::BadRange => {
             let sentence =
                 format!("the units lie outside the payload, which has {payload}; use a smaller first unit or fewer");

@@ -56,10 +56,10 @@ mivrozh format: make a new drive
 
 Usage: mivrozh format [OPTIONS] IMAGE
 
-Makes a random master key, writes a new header and puts the key under a first passphrase into key slot 1. The file must be
-there and be long enough: 2,066,944 bytes and the payload with the default values. The payload keeps its bytes. All that
-stands before it is lost: an older drive, a file system or a partition table. Where that is anything but zeros, you are told
-what it is and asked.
+Makes a random master key, writes a new header and puts the key under a first passphrase into key slot 1. The payload starts
+on a whole mebibyte, so the file must be there and be long enough: 2 MiB and the payload with the default values, 1 MiB and
+the payload where fewer stripes let the key areas end before that. The payload keeps its bytes. All that stands before it is
+lost: an older drive, a file system or a partition table. Where that is anything but zeros, you are told what it is and asked.
 
 Options:
   --hash NAME                sha1 or sha256 (default sha1: a reader may know no other); ask for sha256 where every reader of

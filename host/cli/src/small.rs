@@ -1,5 +1,6 @@
-//! A small drive in memory, with one stripe a slot: to measure this machine by, and to have a key's checksum from.
-use mivrozh::header::Names;
+//! Drives that the tool makes in memory: small ones, with one stripe a slot, to measure this machine by and to have a key's
+//! checksum from; and one of any size, to see where its payload starts.
+use mivrozh::header::{Header, Names, SECTOR};
 use mivrozh::{Drive, FormatInput, Profile, Refusal, Secret};
 use std::ops::Range;
 
@@ -8,7 +9,10 @@ pub const LEAST_COUNT: u32 = 1000;
 
 // Where a header has the key's checksum, its salt and its count.
 const CHECKSUM: Range<usize> = 112..168;
-const LENGTH: usize = 70 * 512;
+// With one stripe a slot, all of this stands before the payload.
+const LENGTH: usize = 1 << 20;
+// More than stands before any payload. Of so much memory only what is written takes room.
+const AMPLE: usize = 16 << 20;
 const UUID: &str = "00000000-0000-0000-0000-000000000000";
 
 /// The profile of a drive whose header the engine has checked.
@@ -18,9 +22,20 @@ pub fn profile_of(image: &[u8]) -> Result<Profile, Refusal> {
 
 /// A drive with this key, the least checksum count and no passphrase.
 pub fn drive(profile: Profile, key: &Secret) -> Result<Vec<u8>, Refusal> {
-    let mut image = vec![0; LENGTH];
+    formatted(profile, key, 1, LENGTH)
+}
+
+/// How many bytes stand before the payload of a drive that is so made. Where that starts is the engine's to say, so it makes
+/// one.
+pub fn before_payload(profile: Profile, stripes: u32) -> Result<usize, Refusal> {
+    let image = formatted(profile, &Secret::zeroed(profile.key_bytes()), stripes, AMPLE)?;
+    Ok(Header::of(&image)?.payload_start as usize * SECTOR)
+}
+
+fn formatted(profile: Profile, key: &Secret, stripes: u32, length: usize) -> Result<Vec<u8>, Refusal> {
+    let mut image = vec![0; length];
     let input = FormatInput::new(profile, key, &[0; 32], LEAST_COUNT, UUID);
-    Drive::over(&mut image[..]).format(&input.stripes(1))?;
+    Drive::over(&mut image[..]).format(&input.stripes(stripes))?;
     Ok(image)
 }
 
@@ -36,12 +51,23 @@ mod tests {
     use super::*;
     use mivrozh::{PayloadUnit, SlotInput};
 
+    #[test]
+    fn a_payload_starts_after_one_mebibyte_or_two() {
+        let starts = |stripes| [Profile::Key256, Profile::Key512].map(|profile| before_payload(profile, stripes));
+        assert_eq!(starts(1), [Ok(1 << 20); 2]);
+        assert_eq!(starts(1983), [Ok(1 << 20); 2]);
+        assert_eq!(starts(1984), [Ok(1 << 20), Ok(2 << 20)]);
+        assert_eq!(starts(3967), [Ok(1 << 20), Ok(2 << 20)]);
+        assert_eq!(starts(3968), [Ok(2 << 20); 2]);
+        assert_eq!(starts(4001), [Err(Refusal::BadStripes); 2]);
+    }
+
     // A drive whose checksum takes long: with the quick one the same key is right, and another wrong.
     #[test]
     fn a_quick_checksum_is_the_same_keys() {
         for &profile in Profile::ALL {
             let (key, other) = (Secret::from(vec![7; profile.key_bytes()]), Secret::from(vec![8; profile.key_bytes()]));
-            let mut image = vec![0; LENGTH];
+            let mut image = vec![0; LENGTH + 3 * SECTOR];
             let mut drive = Drive::over(&mut image[..]);
             drive.format(&FormatInput::new(profile, &key, &[3; 32], 5000, UUID).stripes(1)).expect("a drive");
             drive.add(1, &key, &SlotInput::new(&other, &[4; 32], 1000, &[])).expect("a passphrase");

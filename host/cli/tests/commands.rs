@@ -43,16 +43,41 @@ fn format_has_a_first_passphrase_and_keeps_the_payload() {
     assert_eq!(image[108..112], 64u32.to_be_bytes());
 }
 
+// A payload may be empty: a file that ends where it starts is a drive, and one to which data can be written once it is longer.
+#[test]
+fn format_says_how_long_the_payload_is() {
+    let folder = Folder::with_drive();
+    let format = |sectors: usize| {
+        folder.put("new", vec![0; sectors * 512]);
+        let said = folder.line("format --iterations 1000 --stripes 1 --key-file one new").accepted();
+        assert_eq!(said.out.lines().count(), 2, "{}", said.out);
+        said.out.lines().last().unwrap_or_default().to_owned()
+    };
+    assert_eq!(format(PAYLOAD_START + 16), "the payload has 16 units of 512 bytes");
+    assert_eq!(format(PAYLOAD_START + 1), "the payload has 1 unit of 512 bytes");
+    let empty = "the payload is empty; a longer file or a larger device has room for data";
+    assert_eq!(format(PAYLOAD_START), empty);
+    folder.put("data", pattern(512));
+    folder.line("write --key-file one --in data new").refused(19, empty);
+    folder.line("read --key-file one --first 1 --out back new").refused(19, empty);
+    folder.line("read --key-file one --out nothing new").accepted();
+    assert_eq!(folder.get("nothing"), b"");
+    folder.put("new", [folder.get("new"), vec![0; 512]].concat());
+    folder.line("write --key-file one --in data new").accepted();
+    folder.line("read --key-file one --out back new").accepted();
+    assert!(folder.get("back") == folder.get("data"));
+}
+
 #[test]
 fn format_takes_its_options() {
     let folder = Folder::with_drive();
-    folder.put("new", vec![0; 70 * 512]);
+    folder.put("new", vec![0; LENGTH]);
     let uuid = "6a2b1f0e-3c4d-4e5f-8a9b-0c1d2e3f4a5b";
     folder
         .line(&format!("format --key-size 256 --iterations=2000 --stripes 16 --uuid {uuid} --key-file one new"))
         .accepted();
     let image = folder.get("new");
-    assert_eq!(image[104..112], [0, 0, 0, 66, 0, 0, 0, 32], "payload start and key bytes");
+    assert_eq!(image[104..112], [0, 0, 8, 0, 0, 0, 0, 32], "payload start and key bytes");
     assert_eq!(image[164..168], 1000u32.to_be_bytes(), "checksum count");
     assert_eq!(&image[168..204], uuid.as_bytes());
     assert_eq!(image[212..216], 2000u32.to_be_bytes(), "the slot's count");
@@ -62,10 +87,10 @@ fn format_takes_its_options() {
 #[test]
 fn format_has_sound_defaults() {
     let folder = Folder::with_drive();
-    folder.put("new", vec![0; 4037 * 512]);
+    folder.put("new", vec![0; 4096 * 512]);
     folder.line("format --key-file one new").accepted();
     let image = folder.get("new");
-    assert_eq!(image[104..112], [0, 0, 0x0F, 0xC5, 0, 0, 0, 64], "payload start and key bytes");
+    assert_eq!(image[104..112], [0, 0, 0x10, 0, 0, 0, 0, 64], "payload start and key bytes");
     assert_eq!(image[164..168], 62_500u32.to_be_bytes(), "checksum count");
     assert_eq!(image[212..216], 500_000u32.to_be_bytes(), "the slot's count");
     assert_eq!(image[252..256], 4000u32.to_be_bytes(), "the slot's stripes");
@@ -268,7 +293,7 @@ fn a_huge_image_is_not_read_whole() {
     file.set_len(length).expect("a file with a hole");
     let start = Instant::now();
     folder.line("format --iterations 1000 --key-file one huge").accepted();
-    let last = length / 512 - 4037 - 1;
+    let last = length / 512 - 4096 - 1;
     folder.put("unit", pattern(512));
     folder.line(&format!("write --key-file one --first {last} --in unit huge")).accepted();
     folder.line(&format!("read --key-file one --first {last} --out back huge")).accepted();
@@ -313,7 +338,7 @@ fn counts(folder: &Folder, name: &str) -> (u32, u32) {
 fn iterations_by_number_and_by_time() {
     let folder = Folder::with_drive();
     let format = |options: &str| {
-        folder.put("new", vec![0; 70 * 512]);
+        folder.put("new", vec![0; LENGTH]);
         folder.line(&format!("format {options} --stripes 1 --key-file one new"))
     };
     format("--iterations 24000").accepted();

@@ -154,7 +154,7 @@ fn cryptsetup_opens_a_cut_drive() {
         cryptsetup.output().expect("cryptsetup runs").status.success()
     };
     let folder = Folder::with_drive();
-    folder.put("drive", vec![0; 4040 * 512]);
+    folder.put("drive", vec![0; 4096 * 512]);
     folder.line("format --iterations 1000 --key-file one drive").accepted();
     let before = folder.get("drive");
     let line = "change --iterations 1000 --to 7 --key-file one --new-key-file two drive";

@@ -164,8 +164,34 @@ fn a_short_file() {
     for line in COMMANDS {
         unchanged(&folder, line).refused(6, "give the whole image, or restore the header from a backup");
     }
-    let line = format!("format --force --stripes {STRIPES} --key-file one drive");
-    unchanged(&folder, &line).refused(12, "make it longer, or use fewer stripes");
+}
+
+// It is said how long a file is and how long it must be: 1 MiB or 2 MiB and the payload, by key size and stripes.
+#[test]
+fn a_file_too_short_for_a_new_drive() {
+    let folder = Folder::with_drive();
+    let short = |options: &str, sectors: usize, needs: &str| {
+        folder.put("drive", vec![0; sectors * 512]);
+        let said = unchanged(&folder, &format!("format {options} --key-file one drive"));
+        let words = format!(
+            "drive has {} bytes, and with this key size and these stripes a drive needs {needs} and its payload; make it \
+             longer, or use a larger one",
+            sectors * 512
+        );
+        said.refused(12, &words);
+    };
+    let (one, two) = ("1 MiB (1048576 bytes)", "2 MiB (2097152 bytes)");
+    for sectors in [2, 65, 2047] {
+        short("--stripes 1", sectors, one);
+        short("--key-size 256 --stripes 3967", sectors, one);
+        short("--hash sha256 --stripes 1983", sectors, one);
+    }
+    for sectors in [2, 2048, 4095] {
+        short("", sectors, two);
+        short("--hash sha256 --key-size 256", sectors, two);
+        short("--key-size 256 --stripes 3968", sectors, two);
+        short("--stripes 1984", sectors, two);
+    }
 }
 
 #[test]
@@ -224,7 +250,7 @@ fn arguments_that_the_engine_refuses() {
     format("--stripes 40 --iterations 4294967296").failed(64, "--iterations is at most 4294967295");
     format("--stripes 40 --iterations 999").refused(10, "use 1,000 or more");
     format("--stripes 40 --uuid none").refused(11, "36 printable characters");
-    format("").refused(12, "make it longer, or use fewer stripes");
+    format("").refused(12, "2 MiB (2097152 bytes) and its payload; make it longer");
     let drive = |line: &str| unchanged(&folder, &format!("{line} --key-file one drive"));
     for slot in ["0", "9", "256", "257"] {
         drive(&format!("test --slot {slot}")).refused(13, "use a number from 1 to 8");

@@ -32,13 +32,15 @@ fn with_file(parts: Parts) -> Folder {
 #[test]
 fn format_needs_force_over_anything_but_zeros() {
     let entry = [0x80, 0, 0, 0, 0x83];
-    let cases: [(Parts, &str); 7] = [
+    let cases: [(Parts, &str); 8] = [
         (&[(1080, b"\x53\xef")], "an ext2, ext3 or ext4 file system"),
         (&[(0, b"LUKS\xba\xbe\x00\x02")], "a LUKS drive"),
         (&[(512, b"EFI PART"), (510, b"\x55\xaa")], "a partition table (GPT)"),
         (&[(446, &entry), (510, b"\x55\xaa")], "a partition table (MBR)"),
         (&[(0, b"pedigrees")], "data"),
         (&[(2 * 512, b"\x01")], "data"),
+        // Between the last key area and the payload, too, everything is zeroed.
+        (&[((area(8).end + 1) * 512, b"\x01")], "data"),
         (&[(PAYLOAD_START * 512 - 1, b"\x01")], "data"),
     ];
     for (parts, what) in cases {

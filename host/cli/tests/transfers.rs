@@ -103,7 +103,7 @@ fn every_processor_has_a_chunk() {
         length += count;
     }
     assert!(child.wait().expect("it ends").success());
-    assert_eq!(length, 65 * MIB - 65 * 512);
+    assert_eq!(length, 64 * MIB);
 }
 
 // A payload that is too short while more data is waited for: the failure is said at once.

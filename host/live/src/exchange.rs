@@ -1,10 +1,10 @@
-//! The life of a drive that changes hands: made by cryptsetup, by qemu or by us, used by us, judged by them, used by
-//! them, judged by us.
+//! The life of a drive that changes hands: made by cryptsetup, by qemu, by us or by us as we were before payloads began on
+//! a mebibyte; used by us, judged by them, used by them, judged by us.
 
 use crate::hands::{key_of, Hand};
 use crate::peers::{Cryptsetup, Qemu};
 use crate::screens::{agree, enabled, of_model};
-use crate::work::{load, random, store, Checks, Folder, Kind, Outcome};
+use crate::work::{load, random, salt, store, Checks, Folder, Kind, Outcome};
 use model::header::Header;
 use model::xts::SECTOR;
 use model::{Call, Model};
@@ -23,17 +23,40 @@ pub const UNITS: usize = 32;
 
 #[derive(Clone, Copy, PartialEq)]
 pub enum Maker {
+    /// With the payload right after the areas, as cryptsetup measures them.
     Cryptsetup,
+    /// With the payload where cryptsetup puts it.
+    CryptsetupByDefault,
     Qemu,
     Ourselves,
+    /// The model, by the rules before Wish 4: with the payload right after area 8.
+    OurselvesBefore,
+}
+
+/// Whose hands a slot is added and removed by.
+#[derive(Clone, Copy)]
+enum Peer {
+    Cryptsetup,
+    Qemu,
 }
 
 impl Maker {
     pub fn name(self) -> &'static str {
         match self {
             Maker::Cryptsetup => "made by cryptsetup",
+            Maker::CryptsetupByDefault => "made by cryptsetup, payload where it likes",
             Maker::Qemu => "made by qemu",
             Maker::Ourselves => "made by us",
+            Maker::OurselvesBefore => "made by us before payloads began on a mebibyte",
+        }
+    }
+
+    /// The peer that works on the drive before us, and the one that does after us.
+    fn peers(self) -> [Peer; 2] {
+        match self {
+            Maker::Qemu => [Peer::Qemu; 2],
+            Maker::Ourselves => [Peer::Cryptsetup, Peer::Qemu],
+            _ => [Peer::Cryptsetup; 2],
         }
     }
 }
@@ -50,11 +73,13 @@ pub struct Exchange<'a> {
     pub plain: Vec<u8>,
 }
 
-/// The sectors before the payload in the drives that are made here: of cryptsetup's and qemu's own choice, and 01's.
-fn payload_start(maker: Maker, kind: Kind) -> usize {
+/// The sectors before the payload in the drives that are made here: of cryptsetup's and qemu's own choice, ours, and ours
+/// before Wish 4.
+pub fn payload_start(maker: Maker, kind: Kind) -> usize {
     match (maker, kind.bits) {
-        (Maker::Ourselves, 256) => 2051,
-        (Maker::Ourselves, _) => 4037,
+        (Maker::Ourselves | Maker::CryptsetupByDefault, _) => 4096,
+        (Maker::OurselvesBefore, 256) => 2051,
+        (Maker::OurselvesBefore, _) => 4037,
         (_, 256) => 2056,
         _ => 4040,
     }
@@ -67,14 +92,16 @@ pub fn make(folder: &Folder, hand: &dyn Hand, maker: Maker, kind: Kind) -> Outco
     let bytes = (payload_start(maker, kind) + UNITS) * SECTOR;
     match maker {
         Maker::Qemu => Qemu { folder }.format(&image, kind, FIRST, UNITS * SECTOR)?,
-        Maker::Cryptsetup => {
+        Maker::Cryptsetup | Maker::CryptsetupByDefault => {
             store(&image, &vec![0; bytes])?;
-            Cryptsetup { folder }.format(&image, kind, FIRST)?;
+            let alignment = (maker == Maker::Cryptsetup).then_some("1");
+            Cryptsetup { folder }.format(&image, kind, alignment, FIRST)?;
         }
         Maker::Ourselves => {
             store(&image, &random(bytes)?)?;
             hand.format(&image, kind, FIRST)?;
         }
+        Maker::OurselvesBefore => store(&image, &made_before(random(bytes)?, kind)?)?,
     }
     match load(&image)?.len() {
         length if length == bytes => Ok(image),
@@ -82,34 +109,69 @@ pub fn make(folder: &Folder, hand: &dyn Hand, maker: Maker, kind: Kind) -> Outco
     }
 }
 
+/// A drive as our format and add made it before Wish 4, by the model.
+fn made_before(image: Vec<u8>, kind: Kind) -> Outcome<Vec<u8>> {
+    let (profile, key, count) = (kind.profile(), random(kind.bits / 8)?, 1000);
+    let uuid = b"6d69767a-6f68-4256-8000-0000before-4".to_vec();
+    let format = Call::Format { profile, stripes: 4000, key: key.clone(), salt: salt()?, count, uuid };
+    let (passphrase, stripes) = (FIRST.as_bytes().to_vec(), random(3999 * key.len())?);
+    let add = Call::Add { slot: 1, key, passphrase, salt: salt()?, count, random: stripes };
+    let mut model = Model::aligned(1);
+    [format, add].iter().try_fold(image, |image, call| {
+        let out = model.step(&image, call);
+        (out.number == 0).then_some(out.image).ok_or(format!("the model refuses a call by {}", out.number))
+    })
+}
+
 impl Exchange<'_> {
     pub fn run(&mut self) -> Outcome<()> {
+        self.start("on the new drive")?;
         self.opening()?;
         self.keys()?;
         self.payload()?;
         self.adding()?;
         self.changing()?;
         self.revoking()?;
-        self.back_to_the_maker()?;
+        self.back_to_the_peers()?;
+        self.start("after all this")?;
         let last = self.hand.read(&self.image, FOURTH, 0, UNITS as u64)?;
         self.checks.check("after all this the payload is as it was", last == self.plain)
+    }
+
+    /// The payload start is its maker's, and on a mebibyte where that are we.
+    fn start(&mut self, when: &str) -> Outcome<()> {
+        let start = payload_start(self.maker, self.kind) as u64;
+        let ours = u64::from(Header::read(&load(&self.image)?).payload);
+        let dump = self.cryptsetup.payload_start(self.image())?;
+        let c = &mut self.checks;
+        c.check(&format!("{when}, the payload starts at sector {start}"), ours == start)?;
+        c.check(&format!("{when}, luksDump shows that"), dump == start)?;
+        if self.maker == Maker::Ourselves {
+            c.check(&format!("{when}, that is a multiple of 2,048"), ours % 2048 == 0)?;
+        }
+        if self.qemu_can() {
+            let info = self.qemu.payload_start(self.image())?;
+            return self.checks.check(&format!("{when}, qemu-img info shows that"), info == start);
+        }
+        let reads = self.qemu.payload_start(self.image()).is_ok();
+        self.checks.check(&format!("{when}, qemu refuses a drive with that start"), !reads)
     }
 
     fn image(&self) -> &Path {
         &self.image
     }
 
-    /// The maker puts a passphrase into a slot.
-    fn maker_adds(&self, known: &str, slot: u8, new: &str) -> Outcome<()> {
-        match self.maker {
-            Maker::Qemu => self.qemu.add(self.image(), known, slot, new),
-            _ => self.cryptsetup.add(self.image(), known, slot, new),
+    /// A peer puts a passphrase into a slot.
+    fn peer_adds(&self, peer: Peer, known: &str, slot: u8, new: &str) -> Outcome<()> {
+        match peer {
+            Peer::Qemu => self.qemu.add(self.image(), known, slot, new),
+            Peer::Cryptsetup => self.cryptsetup.add(self.image(), known, slot, new),
         }
     }
 
-    /// qemu reads no drive with the payload starts 2,051 and 4,037.
+    /// qemu reads no drive with the payload starts 2,051 and 4,037, which format gave before Wish 4.
     fn qemu_can(&self) -> bool {
-        self.maker != Maker::Ourselves
+        self.maker != Maker::OurselvesBefore
     }
 
     /// What we show of the slots is what cryptsetup shows, and qemu where it reads the drive.
@@ -129,7 +191,8 @@ impl Exchange<'_> {
 
     fn opening(&mut self) -> Outcome<()> {
         self.screens("on the new drive")?;
-        self.maker_adds(FIRST, 8, SECOND)?;
+        let [before_us, _] = self.maker.peers();
+        self.peer_adds(before_us, FIRST, 8, SECOND)?;
         self.screens("after a peer's addition")?;
         let by_slot = |slot, passphrase| self.hand.open_slot(&self.image, slot, passphrase);
         let (first, eighth) = (by_slot(1, FIRST)?, by_slot(8, SECOND)?);
@@ -234,9 +297,10 @@ impl Exchange<'_> {
         self.screens("after our revocation")
     }
 
-    /// The maker goes on with the drive that we changed, and we judge what it did.
-    fn back_to_the_maker(&mut self) -> Outcome<()> {
-        self.maker_adds(FOURTH, 8, FIFTH)?;
+    /// The peers go on with the drive that we changed, and we judge what they did.
+    fn back_to_the_peers(&mut self) -> Outcome<()> {
+        let [_, after_us] = self.maker.peers();
+        self.peer_adds(after_us, FOURTH, 8, FIFTH)?;
         let added = self.hand.open_slot(&self.image, 8, FIFTH)?;
         self.checks.check("we open the slot that a peer added after us", added == Ok(8))?;
         self.screens("after a peer's addition to it")?;
@@ -245,9 +309,9 @@ impl Exchange<'_> {
         self.checks.check("we open the slot that cryptsetup changed", new == Ok(5))?;
         self.checks.check("and no more with the old passphrase", old == Err(17))?;
         self.screens("after cryptsetup's change")?;
-        match self.maker {
-            Maker::Qemu => self.qemu.remove(self.image(), FOURTH, 8)?,
-            _ => self.cryptsetup.kill(self.image(), 8)?,
+        match after_us {
+            Peer::Qemu => self.qemu.remove(self.image(), FOURTH, 8)?,
+            Peer::Cryptsetup => self.cryptsetup.kill(self.image(), 8)?,
         }
         let removed = self.hand.open_slot(&self.image, 8, FIFTH)?;
         self.checks.check("a slot that a peer removed is refused by 15", removed == Err(15))?;

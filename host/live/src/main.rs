@@ -12,6 +12,7 @@ mod json;
 mod peers;
 mod rebuild;
 mod screens;
+mod stored;
 mod work;
 
 use exchange::{make, Exchange, Maker};
@@ -25,7 +26,7 @@ fn exchanges(folder: &Folder, checks: &mut Checks) -> Outcome<()> {
     let tool = Tool::new(folder)?;
     let hands: [&dyn Hand; 2] = [&Library, &tool];
     for kind in Kind::all() {
-        for maker in [Maker::Cryptsetup, Maker::Qemu, Maker::Ourselves] {
+        for maker in [Maker::Cryptsetup, Maker::Qemu, Maker::Ourselves, Maker::OurselvesBefore] {
             for hand in hands {
                 checks.drive = format!("{kind}, {}, by the {}", maker.name(), hand.name());
                 let image = make(folder, hand, maker, kind)?;
@@ -39,7 +40,7 @@ fn exchanges(folder: &Folder, checks: &mut Checks) -> Outcome<()> {
 
 fn rebuilds(folder: &Folder, checks: &mut Checks) -> Outcome<()> {
     for kind in Kind::all() {
-        for maker in [Maker::Cryptsetup, Maker::Qemu] {
+        for maker in [Maker::Cryptsetup, Maker::CryptsetupByDefault, Maker::Qemu] {
             checks.drive = format!("{kind}, {}, rebuilt", maker.name());
             rebuild::rebuild(folder, checks, maker, kind)?;
         }
@@ -53,6 +54,7 @@ fn run(checks: &mut Checks) -> Outcome<()> {
     let folder = Folder::new()?;
     exchanges(&folder, checks)?;
     rebuilds(&folder, checks)?;
+    stored::stored(&folder, checks)?;
     defaults::defaults(&folder, checks)
 }
 

@@ -11,9 +11,11 @@ pub struct Cryptsetup<'a> {
 }
 
 impl Cryptsetup<'_> {
-    pub fn format(&self, image: &Path, kind: Kind, passphrase: &str) -> Outcome<()> {
+    /// A drive whose payload starts on a multiple of so many sectors, or where cryptsetup likes.
+    pub fn format(&self, image: &Path, kind: Kind, alignment: Option<&str>, passphrase: &str) -> Outcome<()> {
         let (size, hash) = (kind.bits.to_string(), kind.hash.name());
-        let drive = ["--cipher", "aes-xts-plain64", "--hash", hash, "--key-size", &size, "--align-payload", "1"];
+        let mut drive = vec!["--cipher", "aes-xts-plain64", "--hash", hash, "--key-size", &size];
+        drive.extend(alignment.iter().flat_map(|sectors| ["--align-payload", sectors]));
         self.luks_format(image, &drive, passphrase)
     }
 
@@ -69,6 +71,11 @@ impl Cryptsetup<'_> {
     /// The slots as luksDump shows them.
     pub fn slots(&self, image: &Path) -> Outcome<Vec<Shown>> {
         screens::of_luks_dump(&run("cryptsetup", &["luksDump", text(image)])?)
+    }
+
+    /// The payload start as luksDump shows it, in sectors.
+    pub fn payload_start(&self, image: &Path) -> Outcome<u64> {
+        screens::payload_of_luks_dump(&run("cryptsetup", &["luksDump", text(image)])?)
     }
 
     /// The slots that luksDump calls enabled.
@@ -144,7 +151,16 @@ impl Qemu<'_> {
 
     /// The slots as qemu-img info shows them.
     pub fn slots(&self, image: &Path) -> Outcome<Vec<Shown>> {
-        screens::of_qemu(&run("qemu-img", &["info", "-f", "luks", "--output=json", text(image)])?)
+        screens::of_qemu(&self.info(image)?)
+    }
+
+    /// The payload start as qemu-img info shows it, in sectors.
+    pub fn payload_start(&self, image: &Path) -> Outcome<u64> {
+        screens::payload_of_qemu(&self.info(image)?)
+    }
+
+    fn info(&self, image: &Path) -> Outcome<String> {
+        run("qemu-img", &["info", "-f", "luks", "--output=json", text(image)])
     }
 
     pub fn add(&self, image: &Path, known: &str, slot: u8, new: &str) -> Outcome<()> {

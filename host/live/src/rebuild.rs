@@ -1,12 +1,14 @@
-//! Our format and add, given a peer's key, salts, counts and stripes, make that peer's header and areas byte for byte.
+//! Our format and add, given a peer's key, salts, counts and stripes, make that peer's header and areas byte for byte; the
+//! payload start too, where cryptsetup puts it as it likes.
 
-use crate::exchange::{make, Maker};
+use crate::exchange::{make, payload_start, Maker, UNITS};
 use crate::hands::Library;
 use crate::peers::{Cryptsetup, Qemu};
 use crate::work::{load, random, store, Checks, Folder, Kind, Outcome};
 use mivrozh::raw;
-use model::header::{at, Header, Slot};
+use model::header::{at, Header, Slot, HEADER};
 use model::slots::Derivations;
+use model::xts::SECTOR;
 use std::path::Path;
 
 const FIRST: &str = "first passphrase";
@@ -34,11 +36,12 @@ pub fn rebuild(folder: &Folder, checks: &mut Checks, maker: Maker, kind: Kind) -
         checks.check(&format!("slot {} added again: the whole image is the peer's", one.slot), rebuilt == theirs)?;
     }
     let ours = format_again(&theirs, kind, &key, &taken)?;
-    let head = |image: &[u8]| [&image[..at::PAYLOAD], &image[at::KEY_BYTES..592]].concat();
-    checks.check(
-        "formatted and added again: the header is the peer's but for the payload start",
-        head(&ours) == head(&theirs),
-    )?;
+    let without_start = |image: &[u8]| [&image[..at::PAYLOAD], &image[at::KEY_BYTES..HEADER]].concat();
+    let (what, same) = match maker {
+        Maker::CryptsetupByDefault => ("the payload start too", ours[..HEADER] == theirs[..HEADER]),
+        _ => ("but for the payload start", without_start(&ours) == without_start(&theirs)),
+    };
+    checks.check(&format!("formatted and added again: the header is the peer's, {what}"), same)?;
     for one in &taken {
         let area = area(&theirs, one);
         checks.check(&format!("and the area of slot {}", one.slot), ours[area.clone()] == theirs[area])?;
@@ -87,7 +90,7 @@ fn add_again(theirs: &[u8], key: &[u8], taken: &Taken) -> Outcome<Vec<u8>> {
 /// A new drive from the peer's key, checksum salt and count, UUID, and slots.
 fn format_again(theirs: &[u8], kind: Kind, key: &[u8], taken: &[Taken]) -> Outcome<Vec<u8>> {
     let header = Header::read(theirs);
-    let mut image = random(theirs.len())?;
+    let mut image = random((payload_start(Maker::Ourselves, kind) + UNITS) * SECTOR)?;
     let uuid = &theirs[at::UUID..at::UUID + 36];
     match raw::format(&mut image, kind.profile(), 4000, key, &header.salt, header.count, uuid) {
         0 => taken.iter().try_for_each(|one| add(&mut image, key, one)).map(|()| image),

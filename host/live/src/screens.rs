@@ -92,18 +92,38 @@ pub fn of_luks_dump(printed: &str) -> Outcome<Vec<Shown>> {
     understood(Some(slots), printed)
 }
 
+/// The payload start that `cryptsetup luksDump` shows, in sectors.
+pub fn payload_of_luks_dump(printed: &str) -> Outcome<u64> {
+    let said = printed.lines().find_map(|line| line.strip_prefix("Payload offset:")?.trim().parse().ok());
+    said.ok_or_else(|| format!("this has no payload start: {printed}"))
+}
+
+/// A number of bytes as sectors, if they are whole.
+fn sectors(offset: u64) -> Option<u64> {
+    offset.is_multiple_of(512).then_some(offset / 512)
+}
+
+/// What `qemu-img info --output=json` says of the drive as such.
+fn luks_of_qemu(object: &Json) -> Option<&Json> {
+    object.get("format-specific")?.get("data")
+}
+
+/// The payload start that `qemu-img info --output=json` shows, in sectors.
+pub fn payload_of_qemu(printed: &str) -> Outcome<u64> {
+    let offset = || luks_of_qemu(&Json::of(printed)?)?.get("payload-offset")?.number();
+    offset().and_then(sectors).ok_or_else(|| format!("this has no payload start: {printed}"))
+}
+
 /// `qemu-img info --output=json`: offsets are in bytes.
 pub fn of_qemu(printed: &str) -> Outcome<Vec<Shown>> {
     let slots = || {
         let object = Json::of(printed)?;
-        let slots = object.get("format-specific")?.get("data")?.get("slots")?.list()?.iter().map(|slot| {
+        let slots = luks_of_qemu(&object)?.get("slots")?.list()?.iter().map(|slot| {
             let field = |key: &str| slot.get(key).and_then(Json::number);
-            let offset = field("key-offset")?;
-            let start = (offset % 512 == 0).then_some(offset / 512);
             Some(Shown {
                 enabled: slot.get("active")?.bool()?,
                 count: field("iters"),
-                start,
+                start: field("key-offset").and_then(sectors),
                 stripes: field("stripes"),
             })
         });
@@ -185,6 +205,16 @@ mod tests {
         assert!(of_luks_dump(&dump(1003).replace("Key Slot 7: DISABLED\n", "")).is_err());
         assert!(of_qemu(&info(1003).replace("iters", "times")).is_err());
         assert!(of_qemu(&info(1003).replace("active", "state")).is_err());
+    }
+
+    #[test]
+    fn payload_starts_are_read_in_sectors() {
+        let dump = "Version:       \t1\nPayload offset:\t4096\nMK bits:       \t512\n";
+        assert_eq!(payload_of_luks_dump(dump), Ok(4096));
+        assert!(payload_of_luks_dump("MK bits:       \t512\n").is_err());
+        let info = |offset: u64| format!("{{\"format-specific\": {{\"data\": {{\"payload-offset\": {offset}}}}}}}");
+        assert_eq!(payload_of_qemu(&info(2_097_152)), Ok(4096));
+        assert!(payload_of_qemu(&info(2_097_153)).is_err() && payload_of_qemu("{}").is_err());
     }
 
     #[test]

@@ -7,7 +7,7 @@
 //! ```
 //! use mivrozh::{Drive, FormatInput, PayloadUnit, Profile, Secret, SlotInput};
 //!
-//! let mut image = vec![0; 64 * 1024];
+//! let mut image = vec![0; (1 << 20) + 512]; // The payload starts after 1 MiB, with many stripes after 2.
 //! let (key, passphrase) = (Secret::from(vec![7; 64]), Secret::from(&b"open sesame"[..]));
 //! let (salt, random) = ([9; 32], []); // From a good source of randomness in earnest.
 //! let mut drive = Drive::over(&mut image[..]);

@@ -105,7 +105,8 @@ impl Refusal {
             Refusal::LowCount => "the iteration count is too small; use 1,000 or more",
             Refusal::BadUuid => "the UUID must have 36 printable characters without spaces; give one of that form",
             Refusal::ShortImage => {
-                "the image is too short for the header and the eight key areas; make it longer, or use fewer stripes"
+                "the image is shorter than its payload start, 1 MiB, or 2 MiB where the eight key areas need more; \
+                 make it longer"
             }
             Refusal::BadSlot => {
                 "there is no such key slot; use a number from 1 to 8 (cryptsetup counts from 0: its slot 0 is slot 1 here)"

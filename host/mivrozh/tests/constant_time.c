@@ -18,7 +18,7 @@
 #include <string.h>
 #include <valgrind/memcheck.h>
 
-enum { UNIT = 512, IMAGE = 1024 * UNIT, MOST_KEY = 64, MOST_AREA = 40 * UNIT, COUNT = 1000, MOST_UNITS = 70, CHECKSUM = 20 };
+enum { UNIT = 512, IMAGE = (2048 + 80) * UNIT, MOST_KEY = 64, MOST_AREA = 40 * UNIT, COUNT = 1000, MOST_UNITS = 70, CHECKSUM = 20 };
 /* The third is longer than a block of SHA-1 and of SHA-256, so HMAC takes its digest. */
 enum passphrase { FIRST, SECOND, THIRD, PASSPHRASES };
 

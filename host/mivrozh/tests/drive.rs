@@ -26,7 +26,7 @@ fn slot_input<'a>(passphrase: &'a Secret, random: &'a [u8]) -> SlotInput<'a> {
 
 // An image that holds a drive with the passphrase "one" in slot 1.
 fn image(profile: Profile) -> Vec<u8> {
-    let mut image = vec![0; (66 + UNITS) * 512];
+    let mut image = vec![0; (2048 + UNITS) * 512];
     let mut drive = Drive::over(&mut image);
     let key = key(profile);
     drive.format(&format_input(profile, &key)).expect("a drive");
@@ -42,6 +42,7 @@ fn the_life_of_a_drive() {
         let mut drive = Drive::over(&mut image);
         let header = drive.header().expect("a header");
         assert_eq!(header.key_bytes as usize, profile.key_bytes());
+        assert_eq!(header.payload_start, 2048);
         assert_eq!(Names::of(drive.image()).and_then(|names| names.profile()), Some(profile));
         assert_eq!(header.uuid(), UUID.as_bytes());
         assert_eq!(drive.slots().expect("the slots").free(), Some(2));
@@ -262,7 +263,7 @@ fn a_drive_stands_over_any_bytes() {
 fn nothing_that_is_printed_holds_a_key_an_image_or_stripes() {
     let mut image = image(Profile::Key256);
     let drive = Drive::over(&mut image);
-    assert_eq!(format!("{drive:?}"), "Drive { length: 35840 }");
+    assert_eq!(format!("{drive:?}"), "Drive { length: 1050624 }");
     let opened = drive.open(&passphrase("one")).expect("slot 1 opens");
     assert_eq!(format!("{opened:?}"), "Opened { slot: 1, key: Secret(..) }");
     let (key, one) = (key(Profile::Key256), passphrase("one"));

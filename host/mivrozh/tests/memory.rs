@@ -59,7 +59,7 @@ fn with_limit(bytes: u64, work: impl FnOnce() + Send) {
 
 // What an opening of a new drive gives.
 fn opened() -> Opened {
-    let mut image = vec![0; 64 * 1024];
+    let mut image = vec![0; 1 << 20];
     let (key, one, salt) = (Secret::from(vec![7; 64]), Secret::from(&b"one"[..]), [9; 32]);
     let mut drive = Drive::over(&mut image[..]);
     drive.format(&FormatInput::new(Profile::Key512, &key, &salt, 1000, &"u".repeat(36)).stripes(1)).expect("a drive");

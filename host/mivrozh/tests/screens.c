@@ -8,7 +8,7 @@
 #include <stdlib.h>
 #include <string.h>
 
-enum { KEY = 32, STRIPES = 16, COUNT = 1003, IMAGE = 66 * 512, RANDOM = (STRIPES - 1) * KEY, JUNK = 0xA5 };
+enum { KEY = 32, STRIPES = 16, COUNT = 1003, IMAGE = 2048 * 512, RANDOM = (STRIPES - 1) * KEY, JUNK = 0xA5 };
 
 static const uint8_t UUID[] = "6a2b1f0e-3c4d-4e5f-8a9b-0c1d2e3f4a5b";
 static uint8_t image[IMAGE], before[IMAGE], key[KEY], salt[32], random_bytes[RANDOM];

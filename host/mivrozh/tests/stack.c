@@ -12,7 +12,7 @@
 #include <stdlib.h>
 #include <string.h>
 
-enum { STACK = 512 * 1024, KEY = 64, STRIPES = 9, COUNT = 1000, UNITS = 40, IMAGE = (80 + UNITS) * 512, PASSPHRASE = 64 };
+enum { STACK = 512 * 1024, KEY = 64, STRIPES = 9, COUNT = 1000, UNITS = 40, IMAGE = (2048 + UNITS) * 512, PASSPHRASE = 64 };
 /* OWN: what the frame of the thread itself may take below its upper end. */
 enum { RANDOM = (STRIPES - 1) * KEY, FILLER = STRIPES * KEY, DERIVED = 20, PIECE = 8, OWN = 256 };
 enum call { FORMAT, ADD, OPEN_SLOT, OPEN, CHANGE, READ, WRITE, CALLS };

@@ -12,7 +12,7 @@ const STRIPES: u32 = 4000;
 const LENGTH: usize = 64;
 // More than 32, and not a multiple of it.
 const UNITS: usize = 40;
-const IMAGE: usize = (4037 + UNITS) * 512;
+const IMAGE: usize = (4096 + UNITS) * 512;
 const COUNT: u32 = 1000;
 const UUID: &[u8; 36] = b"6a2b1f0e-3c4d-4e5f-8a9b-0c1d2e3f4a5b";
 
@@ -149,7 +149,7 @@ impl Scene {
     // The beginning of the key that the passphrase of slot 8 derives, and so of its AES key schedule. The header's
     // checksum is the same derivation, of a master key: so it is read from a drive whose key is that passphrase.
     fn derived(&self) -> Vec<u8> {
-        let mut image = vec![0; 40 * 1024];
+        let mut image = vec![0; 1 << 20];
         assert_eq!(raw::format(&mut image, self.profile, 1, &self.last, &self.salt, COUNT, UUID), 0);
         image[112..132].to_vec()
     }

@@ -121,12 +121,24 @@ fn payload_units(header: &Header, image_len: usize) -> u64 {
     (image_len as u64 / SECTOR as u64).saturating_sub(header.payload as u64)
 }
 
-#[derive(Default)]
 pub struct Model {
     pub derivations: Derivations,
+    /// Format's payload start is a multiple of so many sectors.
+    pub alignment: u64,
+}
+
+impl Default for Model {
+    fn default() -> Model {
+        Model::aligned(header::ALIGNMENT)
+    }
 }
 
 impl Model {
+    /// A model whose format puts the payload on a multiple of so many sectors.
+    pub fn aligned(alignment: u64) -> Model {
+        Model { derivations: Derivations::default(), alignment }
+    }
+
     /// The first number that refuses the call, or 0.
     pub fn number(&mut self, image: &[u8], call: &Call) -> u8 {
         self.checks(image, call, false).first().copied().unwrap_or(0)
@@ -141,8 +153,8 @@ impl Model {
     fn checks(&mut self, image: &[u8], call: &Call, all: bool) -> Vec<u8> {
         let mut f = Findings { all, failing: Vec::new() };
         let h = Header::read(image);
-        if let Call::Format { profile, stripes, key, count, uuid, .. } = call {
-            format_checks(&mut f, image.len(), *profile, *stripes, key, *count, uuid);
+        if let Call::Format { .. } = call {
+            format_checks(&mut f, image.len(), call, self.alignment);
             return f.failing;
         }
         for (number, refused) in h.refusals(image.len()) {
@@ -221,11 +233,7 @@ impl Model {
         let d = &mut self.derivations;
         let payload = h.payload as u64;
         match call {
-            Call::Format { profile, stripes, key, salt, count, uuid } => {
-                let profile = Profile::numbered(*profile).expect("check 7 passed");
-                let checksum = d.checksum(profile.hash, key, salt, *count);
-                format(&mut out.image, profile, *stripes, &checksum, salt, *count, uuid);
-            }
+            Call::Format { .. } => format(d, &mut out.image, call, self.alignment),
             Call::Add { slot, key, passphrase, salt, count, random } => {
                 d.fill(&mut out.image, *slot, key, passphrase, salt, *count, random);
             }
@@ -261,28 +269,25 @@ impl Model {
     }
 }
 
-fn format_checks(f: &mut Findings, image_len: usize, profile: u8, stripes: u32, key: &[u8], count: u32, uuid: &[u8]) {
-    let length = Profile::numbered(profile).map(|p| p.key_bytes);
+fn format_checks(f: &mut Findings, image_len: usize, call: &Call, alignment: u64) {
+    let Call::Format { profile, stripes, key, count, uuid, .. } = call else { unreachable!("a format") };
+    let length = Profile::numbered(*profile).map(|p| p.key_bytes);
+    let payload = |length| header::layout(*stripes, length, alignment).1 * SECTOR as u64;
     f.check(1, || header::bad_length(image_len));
     f.check(7, || length.is_none());
-    f.check(8, || !(1..=header::MAX_STRIPES).contains(&stripes));
+    f.check(8, || !(1..=header::MAX_STRIPES).contains(stripes));
     f.check(9, || length.is_some_and(|l| key.len() != l));
-    f.check(10, || length.is_some() && count < header::SMALLEST_COUNT);
+    f.check(10, || length.is_some() && *count < header::SMALLEST_COUNT);
     f.check(11, || bad_uuid(uuid));
-    f.check(12, || length.is_some_and(|l| (image_len as u64) < header::layout(stripes, l).1 * SECTOR as u64));
+    f.check(12, || length.is_some_and(|l| (image_len as u64) < payload(l)));
 }
 
 /// Zeroes everything before the payload, then writes the header.
-fn format(
-    image: &mut [u8],
-    profile: &Profile,
-    stripes: u32,
-    checksum: &[u8],
-    salt: &[u8; 32],
-    count: u32,
-    uuid: &[u8],
-) {
-    let (starts, payload) = header::layout(stripes, profile.key_bytes);
+fn format(d: &mut Derivations, image: &mut [u8], call: &Call, alignment: u64) {
+    let Call::Format { profile, stripes, key, salt, count, uuid } = call else { unreachable!("a format") };
+    let profile = Profile::numbered(*profile).expect("check 7 passed");
+    let checksum = d.checksum(profile.hash, key, salt, *count);
+    let (starts, payload) = header::layout(*stripes, profile.key_bytes, alignment);
     image[..payload as usize * SECTOR].fill(0);
     put(image, at::MAGIC, &header::MAGIC);
     put(image, at::VERSION, &header::VERSION.to_be_bytes());
@@ -291,12 +296,12 @@ fn format(
     }
     put_number(image, at::PAYLOAD, payload as u32);
     put_number(image, at::KEY_BYTES, profile.key_bytes as u32);
-    put(image, at::CHECKSUM, checksum);
+    put(image, at::CHECKSUM, &checksum);
     put(image, at::SALT, salt);
-    put_number(image, at::COUNT, count);
+    put_number(image, at::COUNT, *count);
     put(image, at::UUID, uuid);
     for (k, start) in (1..).zip(starts) {
-        Slot { state: DISABLED, count: 0, salt: [0; 32], start: start as u32, stripes }.write(image, k);
+        Slot { state: DISABLED, count: 0, salt: [0; 32], start: start as u32, stripes: *stripes }.write(image, k);
     }
 }
 
@@ -318,20 +323,35 @@ fn answer(slot: u8, key: &[u8]) -> [u8; 66] {
 mod tests {
     use super::*;
 
-    /// For payload 65: 33,280 bytes pass, 33,279 give 1, 32,768 give 12.
+    fn format_of_one_stripe() -> Call {
+        let uuid = vec![b'u'; 36];
+        Call::Format { profile: 1, stripes: 1, key: vec![1; 32], salt: [2; 32], count: 1000, uuid }
+    }
+
+    /// For payload 2,048: 1,048,576 bytes pass, 1,048,575 give 1, 1,048,064 and 33,280 give 12. For payload 65, as it was
+    /// before: 33,280 bytes pass, 33,279 give 1, 32,768 give 12.
     #[test]
     fn figures_of_format() {
-        let uuid = vec![b'u'; 36];
-        let call = Call::Format { profile: 1, stripes: 1, key: vec![1; 32], salt: [2; 32], count: 1000, uuid };
-        let numbers = [33_280, 33_279, 32_768].map(|bytes| Model::default().number(&vec![0; bytes], &call));
-        assert_eq!(numbers, [0, 1, 12]);
+        let number = |mut model: Model, bytes| model.number(&vec![0; bytes], &format_of_one_stripe());
+        let numbers = [1_048_576, 1_048_575, 1_048_064, 33_280].map(|bytes| number(Model::default(), bytes));
+        assert_eq!(numbers, [0, 1, 12, 12]);
+        assert_eq!([33_280, 33_279, 32_768].map(|bytes| number(Model::aligned(1), bytes)), [0, 1, 12]);
+    }
+
+    /// Also between the end of area 8 and the payload.
+    #[test]
+    fn format_zeroes_everything_before_the_payload() {
+        let image = Model::default().step(&vec![9; 2050 * SECTOR], &format_of_one_stripe()).image;
+        let (before, payload) = image.split_at(2048 * SECTOR);
+        assert!(before[header::HEADER..].iter().all(|byte| *byte == 0));
+        assert_eq!(payload, [9; 2 * SECTOR]);
     }
 
     fn a_life(profile: &Profile) {
         let mut model = Model::default();
         let length = profile.key_bytes;
         let (key, salt) = (vec![5; length], [6; 32]);
-        let mut image = vec![9; 66 * SECTOR];
+        let mut image = vec![9; 2049 * SECTOR];
         let mut step = |call: Call| {
             let out = model.step(&image, &call);
             image = out.image.clone();

@@ -11,6 +11,9 @@ pub const ENABLED: u32 = 0x00ac71f3;
 pub const DISABLED: u32 = 0x0000dead;
 pub const MAX_STRIPES: u32 = 4000;
 pub const SMALLEST_COUNT: u32 = 1000;
+/// Format's payload start is a multiple of so many sectors: 02, Wish 4. Before that it was any, a multiple of 1.
+pub const ALIGNMENT: u64 = 2048;
+
 /// A row of the table of profiles. In all of them the cipher is aes, the mode xts-plain64, and the smallest count
 /// `SMALLEST_COUNT`.
 #[derive(Debug)]
@@ -216,16 +219,17 @@ fn is(field: &[u8], name: &str) -> bool {
     text(field) == Some(name.as_bytes())
 }
 
-/// Where format puts the eight areas and the payload, in sectors.
-pub fn layout(stripes: u32, key_length: usize) -> ([u64; 8], u64) {
+/// Where format puts the eight areas and the payload, in sectors: each area on a multiple of 8, the payload on one of
+/// `alignment`.
+pub fn layout(stripes: u32, key_length: usize, alignment: u64) -> ([u64; 8], u64) {
     let sectors = stripes as u64 * key_length as u64 / SECTOR as u64 + 1;
-    let mut next = 2;
+    let mut next = 2u64;
     let starts = std::array::from_fn(|_| {
-        let start = u64::div_ceil(next, 8) * 8;
+        let start = next.next_multiple_of(8);
         next = start + sectors;
         start
     });
-    (starts, next)
+    (starts, next.next_multiple_of(alignment))
 }
 
 #[cfg(test)]
@@ -234,9 +238,29 @@ mod tests {
 
     #[test]
     fn figures() {
-        assert_eq!(layout(4000, 32), ([8, 264, 520, 776, 1032, 1288, 1544, 1800], 2051));
-        assert_eq!(layout(4000, 64), ([8, 512, 1016, 1520, 2024, 2528, 3032, 3536], 4037));
-        assert_eq!([1, 15, 16].map(|n| layout(n, 32).1), [65, 65, 66]);
+        assert_eq!(layout(4000, 32, 1), ([8, 264, 520, 776, 1032, 1288, 1544, 1800], 2051));
+        assert_eq!(layout(4000, 64, 1), ([8, 512, 1016, 1520, 2024, 2528, 3032, 3536], 4037));
+        assert_eq!([1, 15, 16].map(|n| layout(n, 32, 1).1), [65, 65, 66]);
+    }
+
+    /// The areas stay where they were, and the payload start is rounded up.
+    #[test]
+    fn figures_of_payloads_on_a_mebibyte() {
+        let starts = |numbers: [u32; 6], length| numbers.map(|n| layout(n, length, ALIGNMENT).1);
+        assert_eq!(starts([1, 15, 16, 3967, 3968, 4000], 32), [2048, 2048, 2048, 2048, 4096, 4096]);
+        assert_eq!(starts([1, 15, 16, 1983, 1984, 4000], 64), [2048, 2048, 2048, 2048, 4096, 4096]);
+        for (stripes, length) in [(1, 32), (15, 32), (3967, 32), (4000, 32), (1983, 64), (4000, 64)] {
+            assert_eq!(layout(stripes, length, ALIGNMENT).0, layout(stripes, length, 1).0);
+        }
+    }
+
+    #[test]
+    fn format_gives_two_starts_only() {
+        for length in [32, 64] {
+            let mut starts: Vec<u64> = (1..=MAX_STRIPES).map(|n| layout(n, length, ALIGNMENT).1).collect();
+            starts.dedup();
+            assert_eq!(starts, [2048, 4096]);
+        }
     }
 
     #[test]

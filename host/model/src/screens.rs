@@ -61,7 +61,7 @@ mod tests {
     fn fresh(model: &mut Model) -> Vec<u8> {
         let uuid = vec![b'u'; 36];
         let call = Call::Format { profile: 1, stripes: 16, key: vec![5; 32], salt: [6; 32], count: 1000, uuid };
-        let out = model.step(&vec![0; 66 * SECTOR], &call);
+        let out = model.step(&vec![0; 2048 * SECTOR], &call);
         assert_eq!(out.number, 0);
         out.image
     }

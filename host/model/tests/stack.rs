@@ -26,7 +26,7 @@ fn calls(profile: u8, image: &mut [u8], numbers: &mut [u8; 10]) {
 #[test]
 fn every_call_runs_in_little_more_stack_than_is_wiped() {
     for profile in [2, 4] {
-        let (mut image, mut numbers) = (vec![0; 66 * 512], [255; 10]);
+        let (mut image, mut numbers) = (vec![0; 2049 * 512], [255; 10]);
         std::thread::scope(|scope| {
             let thread = std::thread::Builder::new().stack_size(STACK);
             thread

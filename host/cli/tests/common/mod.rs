@@ -8,10 +8,10 @@ use std::path::{Path, PathBuf};
 use std::process::{Command, Output, Stdio};
 use std::sync::atomic::{AtomicUsize, Ordering};
 
-/// Key areas of 40 stripes of 64 bytes: 5 sectors each, from sector 8 on every 8 sectors. The payload follows area 8.
+/// Key areas of 40 stripes of 64 bytes: 5 sectors each, from sector 8 on every 8 sectors. The payload starts after 1 MiB.
 pub const STRIPES: &str = "40";
 pub const AREA_SECTORS: usize = 5;
-pub const PAYLOAD_START: usize = 70;
+pub const PAYLOAD_START: usize = 2048;
 pub const PAYLOAD_UNITS: usize = 16;
 pub const LENGTH: usize = (PAYLOAD_START + PAYLOAD_UNITS) * 512;
 
@@ -20,9 +20,17 @@ pub const NOBODY: u32 = 65534;
 
 extern "C" {
     fn setsid() -> i32;
+    fn signal(number: i32, action: usize) -> usize;
 }
 
-/// The tool, in a session of its own: the terminal of whoever runs the tests is not its terminal.
+/// The signals that end a program at a terminal: SIGHUP, SIGINT, SIGQUIT, SIGTERM.
+const ENDING: [i32; 4] = [1, 2, 3, 15];
+
+/// What a signal does where nobody said otherwise.
+const DEFAULT: usize = 0;
+
+/// The tool, in a session of its own: the terminal of whoever runs the tests is not its terminal, nor are the signals that
+/// they ignore (as under nohup) ignored by it.
 pub fn tool() -> Command {
     tool_at(Path::new(env!("CARGO_BIN_EXE_mivrozh")))
 }
@@ -31,11 +39,16 @@ pub fn tool() -> Command {
 pub fn tool_at(program: &Path) -> Command {
     let mut command = Command::new(program);
     command.stdin(Stdio::null());
-    // SAFETY: setsid may be called between fork and exec.
+    // SAFETY: signal and setsid may be called between fork and exec.
     unsafe {
-        command.pre_exec(|| match setsid() {
-            -1 => Err(std::io::Error::last_os_error()),
-            _ => Ok(()),
+        command.pre_exec(|| {
+            ENDING.iter().for_each(|&number| {
+                signal(number, DEFAULT);
+            });
+            match setsid() {
+                -1 => Err(std::io::Error::last_os_error()),
+                _ => Ok(()),
+            }
         });
     }
     command

@@ -15,7 +15,7 @@ use Rattle.rules.specs.Format.{formatInput, formatChecks}
 use Rattle.rules.proofs.ChecksLaws.{Pass, refused-by, all-pass, pass-next}
 use Rattle.rules.proofs.RowLaws.{lawful-row}
 use Rattle.profiles.specs.Rows.{rows}
-use Rattle.profiles.specs.Suites.{built}
+use Rattle.profiles.specs.Suites.{alignment, built}
 use Rattle.profiles.proofs.Lawful.{rows-ok}
 use Rattle.formatting.proofs.checks.format_check.Statement.{statement}
 use Rattle.formatting.proofs.checks.format_check.Tie as tie
@@ -81,8 +81,8 @@ passed₆ c salt = pass-next (checks (start₆ c) salt) 5 (passed₅ (c .before 
 
 -- the payload's start is that of the rules' row
 payload-is : (c : tie.After-payload-start)
-    → let a = start₆ (c .before) .args in c .payload-start .result .0 ≡ payloadStart (a .stripes) (profileAt rows (a .profile) .keyBytes)
-payload-is c = c .payload-start .ensures .0 ∙ ap (payloadStart (start₆ (c .before) .args .stripes)) (row (c .before) .profile-at .ensures .key-is)
+    → let a = start₆ (c .before) .args in c .payload-start .result .0 ≡ payloadStart alignment (a .stripes) (profileAt rows (a .profile) .keyBytes)
+payload-is c = c .payload-start .ensures .0 ∙ ap (payloadStart alignment (start₆ (c .before) .args .stripes)) (row (c .before) .profile-at .ensures .key-is)
 
 -- ---- the needs
 

@@ -6,6 +6,7 @@ use borrow.Author.Needs.{needs}
 use Rattle.octets.specs.Octets.{padded}
 use Rattle.octets.proofs.OctetsLaws.{length-padded}
 use Rattle.rules.specs.Layout.{payloadStart}
+use Rattle.profiles.specs.Suites.{alignment}
 use Rattle.formatting.proofs.FieldsLaws.{in-order, numberWidths, number-widths}
 use Rattle.formatting.proofs.fields.put_numbers.Statement.{statement}
 use Rattle.formatting.proofs.fields.put_numbers.Tie as tie
@@ -22,7 +23,7 @@ returns c =
     let z = p .before .before .before .before in
     let a = z .args in
     let u : length (a .uuid .now) ≤ 40 = omega (arith, z .pre .3) in
-    let w = number-widths (payloadStart (a .stripes) (a .key-bytes)) (a .key-bytes) (a .sum .now) (a .salt .now) (a .count) (padded 40 (a .uuid .now))
+    let w = number-widths (payloadStart alignment (a .stripes) (a .key-bytes)) (a .key-bytes) (a .sum .now) (a .salt .now) (a .count) (padded 40 (a .uuid .now))
     (c₃ .before .copy-into-arg2 .given .0) (c₄ .before .copy-into-arg4 .given .0) (length-padded 40 (a .uuid .now) u) in
     rw (
       c₆ .copy-into3 .ensures,

@@ -31,9 +31,11 @@ impl Lent {
         &mut self.memory[self.begin..self.begin + self.length]
     }
 
-    fn margins_stay(&self) -> bool {
-        let (before, after) = (&self.memory[..self.begin], &self.memory[self.begin + self.length..]);
-        before.iter().chain(after).all(|b| *b == MARGIN)
+    /// The bytes as the library left them, and whether the margins stay.
+    fn returned(mut self) -> (Vec<u8>, bool) {
+        let after = self.memory.split_off(self.begin + self.length);
+        let before: Vec<u8> = self.memory.drain(..self.begin).collect();
+        (self.memory, before.iter().chain(&after).all(|b| *b == MARGIN))
     }
 }
 
@@ -96,13 +98,10 @@ impl Both {
         let opened: &mut [u8; 66] = lent_opened.bytes().try_into().expect("66 bytes were lent");
         let number = call_library(lent_image.bytes(), lent_buffer.bytes(), opened, call);
         let opens = matches!(call, Call::OpenSlot { .. } | Call::Open { .. });
-        let out = Outcome {
-            number,
-            opened: if opens { *opened } else { [0; 66] },
-            buffer: lent_buffer.bytes().to_vec(),
-            image: lent_image.bytes().to_vec(),
-        };
-        (out, lent_image.margins_stay() && lent_buffer.margins_stay() && lent_opened.margins_stay())
+        let opened = if opens { *opened } else { [0; 66] };
+        let ((image, one), (buffer, two), (_, three)) =
+            (lent_image.returned(), lent_buffer.returned(), lent_opened.returned());
+        (Outcome { number, opened, buffer, image }, one && two && three)
     }
 }
 

@@ -81,9 +81,8 @@ pub const WAYS: [Way; 35] = [
     (6, "an area that passes the payload by bytes", |r, image| {
         let h = Header::read(image);
         let k = r.range(1, 8);
-        let room = SECTOR as u32 / h.key_bytes;
-        put_number(image, at::slot(k) + at::START, h.payload - 1);
-        put_number(image, at::slot(k) + at::STRIPES, room + 1);
+        put_number(image, at::slot(k) + at::START, h.payload.saturating_sub(1));
+        put_number(image, at::slot(k) + at::STRIPES, stripes_in(SECTOR as u32, &h) + 1);
     }),
     (6, "a payload start one sector too early", |_, image| {
         let h = Header::read(image);
@@ -98,8 +97,8 @@ pub const WAYS: [Way; 35] = [
     (6, "an area's last stripe in another's first sector", |r, image| {
         let h = Header::read(image);
         let (k, other) = neighbours(r, &h);
-        let gap = (h.slots[other].start - h.slots[k].start) * SECTOR as u32;
-        put_number(image, at::slot(k + 1) + at::STRIPES, gap / h.key_bytes + 1);
+        let gap = (h.slots[other].start - h.slots[k].start).saturating_mul(SECTOR as u32);
+        put_number(image, at::slot(k + 1) + at::STRIPES, stripes_in(gap, &h).saturating_add(1));
     }),
     (6, "one area within another", |r, image| {
         let h = Header::read(image);
@@ -145,6 +144,11 @@ fn name(r: &mut Random, image: &[u8]) -> (usize, usize) {
     let at = r.pick(&at::NAMES);
     let length = image[at..at + 32].iter().position(|b| *b == 0).unwrap_or(0);
     (at, length.clamp(3, 11))
+}
+
+/// How many stripes so many bytes have room for, also where the key length was damaged before and is 0.
+fn stripes_in(bytes: u32, h: &Header) -> u32 {
+    bytes / h.key_bytes.max(1)
 }
 
 fn record(r: &mut Random) -> usize {

@@ -1,10 +1,11 @@
-//! Drives to call upon: foreign ones, laid out as no format of ours would, and what the test knows of a drive.
+//! Drives to call upon: foreign ones, laid out as no format of ours would, those with an old payload start, and what the
+//! test knows of a drive.
 
 use crate::random::Random;
-use model::header::{at, put, put_number, Header, Profile, Slot, DISABLED, MAGIC, PROFILES};
+use model::header::{at, layout, put, put_number, Header, Profile, Slot, ALIGNMENT, DISABLED, MAGIC, PROFILES};
 use model::slots::Derivations;
 use model::xts::SECTOR;
-use model::Call;
+use model::{Call, Model};
 
 /// An image, the key of its checksum, and for each slot the passphrase that opened it last.
 #[derive(Clone)]
@@ -84,13 +85,45 @@ pub fn foreign(random: &mut Random, d: &mut Derivations, profile: &Profile, key:
     let more = random.bytes(units * SECTOR);
     image.extend_from_slice(&more);
     let mut drive = Drive { image, key: key.to_vec(), passphrases: Default::default() };
+    enable_some(random, d, &mut drive, chance);
+    drive
+}
+
+/// A drive as format made it before payloads began on a mebibyte: the model makes it, with the payload right after area 8.
+/// One in four is so long that it can be formatted anew. Each slot is enabled with the given chance out of 8.
+pub fn old_start(random: &mut Random, profile: &Profile, key: &[u8], chance: u64) -> Drive {
+    let call = fair_format(random, profile, key.to_vec());
+    let alignment = if random.chance(1, 4) { ALIGNMENT } else { 1 };
+    let image = image_for(random, &call, alignment);
+    let mut model = Model::aligned(1);
+    let image = model.step(&image, &call).image;
+    let mut drive = Drive { image, key: key.to_vec(), passphrases: Default::default() };
+    enable_some(random, &mut model.derivations, &mut drive, chance);
+    drive
+}
+
+/// A format that is accepted on an image that is long enough.
+pub fn fair_format(random: &mut Random, profile: &Profile, key: Vec<u8>) -> Call {
+    let uuid = (0..36).map(|_| random.range(33, 126) as u8).collect();
+    let profile = profile.number;
+    let stripes = random.range(1, 20) as u32;
+    Call::Format { profile, stripes, key, salt: random.salt(), count: random.range(1000, 1003) as u32, uuid }
+}
+
+/// Random bytes for a fair format: up to the payload start of this alignment, and 0 to 6 units.
+pub fn image_for(random: &mut Random, format: &Call, alignment: u64) -> Vec<u8> {
+    let Call::Format { stripes, key, .. } = format else { unreachable!("a format") };
+    let sectors = layout(*stripes, key.len(), alignment).1 as usize + random.range(0, 6);
+    random.bytes(sectors * SECTOR)
+}
+
+fn enable_some(random: &mut Random, d: &mut Derivations, drive: &mut Drive, chance: u64) {
     for k in 1..=8 {
         if random.chance(chance, 8) {
             let passphrase = passphrase(random);
-            enable(random, d, &mut drive, k, &passphrase);
+            enable(random, d, drive, k, &passphrase);
         }
     }
-    drive
 }
 
 /// Fills and enables a slot with a small count.

@@ -5,7 +5,8 @@
 //!     lists [--calls N] [--seed S] [--profiles P]
 //!
 //! N is the number of calls in the random lists (20,000 if not given); the seed is printed and repeats a run. P is the
-//! number of profiles that each set is tried on (all if not given); where it is not all of them, they take turns.
+//! number of profiles that each set and each figure is tried on (all if not given); where it is not all of them, they
+//! take turns.
 
 mod both;
 mod damage;
@@ -56,7 +57,7 @@ fn run(options: &Options, both: &mut Both) -> Result<(), String> {
         println!("  {name:10} {count:6}");
     }
     println!("ways of damage, before each call: {}", sets::ways(both, &mut random)?);
-    println!("calls on drives of the figures: {}", sets::figures(both, &mut random)?);
+    println!("calls on drives of the figures: {}", sets::figures(both, &mut random, options.profiles)?);
     let [same, first, neither] = sets::agreements(both, &mut random)?;
     println!(
         "pairs of drives with the same screens: {same}, with the same first one: {first}, with neither: {neither}"
@@ -64,13 +65,17 @@ fn run(options: &Options, both: &mut Both) -> Result<(), String> {
     if same == 0 || first == 0 || neither == 0 {
         return Err("a kind of pair was not met".into());
     }
-    let (mut made, mut lists) = (0, 0);
+    let (mut made, mut lists) = (0, [0; walks::DRIVES.len()]);
     while made < options.calls {
-        lists += 1;
-        made +=
-            walks::walk(both, &mut random, options.calls - made).map_err(|e| format!("random list {lists}: {e}"))?;
+        let failed = |e| format!("random list {}: {e}", lists.iter().sum::<usize>() + 1);
+        let (on, calls) = walks::walk(both, &mut random, options.calls - made).map_err(failed)?;
+        lists[on] += 1;
+        made += calls;
     }
-    println!("random lists: {lists} with {made} calls");
+    println!("random lists: {} with {made} calls", lists.iter().sum::<usize>());
+    for (name, lists) in walks::DRIVES.iter().zip(lists) {
+        println!("  {name:24} {lists:6}");
+    }
     Ok(())
 }
 

@@ -36,7 +36,11 @@ impl Random {
     }
 
     pub fn bytes(&mut self, length: usize) -> Vec<u8> {
-        (0..length).map(|_| self.byte()).collect()
+        let mut bytes = vec![0; length];
+        for part in bytes.chunks_mut(8) {
+            part.copy_from_slice(&self.number().to_le_bytes()[..part.len()]);
+        }
+        bytes
     }
 
     /// Random bytes, 0 to `most` of them.

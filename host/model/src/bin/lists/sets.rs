@@ -12,7 +12,7 @@ use crate::drives::{enable, foreign, Drive};
 use crate::random::Random;
 use crate::screens;
 use model::calls::KINDS;
-use model::header::{at, layout, put_number, Header, Profile, DISABLED, PROFILES};
+use model::header::{at, layout, put_number, Header, Profile, ALIGNMENT, DISABLED, PROFILES};
 use model::slots::short_equal;
 use model::xts::SECTOR;
 use model::Call;
@@ -147,17 +147,29 @@ fn changed(
     expect(both, &mut image, &call, number).map_err(|e| format!("{name}: {e}"))
 }
 
-/// Key bytes, stripes and payload start: 01's figures.
-const FIGURES: [(usize, u32, usize); 5] = [(32, 1, 65), (32, 15, 65), (32, 16, 66), (32, 4000, 2051), (64, 4000, 4037)];
+/// Key bytes, stripes and payload start: 01's figures, as Wish 4 of 02 has them.
+const FIGURES: [(usize, u32, usize); 8] = [
+    (32, 1, 2048),
+    (32, 15, 2048),
+    (32, 16, 2048),
+    (32, 3967, 2048),
+    (32, 3968, 4096),
+    (32, 4000, 4096),
+    (64, 1983, 2048),
+    (64, 4000, 4096),
+];
 
-/// Format at each figure, with each profile that has its key length: an image that ends at the payload start is accepted, a sector less gives 12, a byte less 1. Then
-/// slot 8 of the drive is added and opened.
-pub fn figures(both: &mut Both, random: &mut Random) -> Result<usize, String> {
+/// Format at each figure, with at most so many of the profiles that have its key length: an image that ends at the payload
+/// start is accepted; a sector less and the length that was enough for payload 65 give 12, a byte less 1. Then slot 8 of
+/// the drive is added and opened, and a unit behind the payload start written and read.
+pub fn figures(both: &mut Both, random: &mut Random, profiles: usize) -> Result<usize, String> {
     let mut made = 0;
-    for (key_bytes, stripes, payload) in FIGURES {
-        for profile in PROFILES.iter().filter(|p| p.key_bytes == key_bytes) {
+    for (i, (key_bytes, stripes, payload)) in FIGURES.into_iter().enumerate() {
+        let such = PROFILES.iter().filter(|p| p.key_bytes == key_bytes);
+        let number = profiles.min(such.clone().count());
+        for profile in such.cycle().skip(i % 2).take(number) {
             figure(both, random, profile, stripes, payload)?;
-            made += 5;
+            made += 8;
         }
     }
     Ok(made)
@@ -169,14 +181,19 @@ fn figure(both: &mut Both, random: &mut Random, p: &Profile, stripes: u32, paylo
     let mut image = random.bytes(payload * SECTOR);
     let passphrase = random.bytes(9);
     let before = random.bytes((stripes as usize - 1) * key.len());
-    let add = Call::Add { slot: 8, key, passphrase: passphrase.clone(), salt: [4; 32], count: 1000, random: before };
+    let (slot, passed) = (8, passphrase.clone());
+    let add = Call::Add { slot, key: key.clone(), passphrase: passed, salt: [4; 32], count: 1000, random: before };
     let short = |by: usize| image[..image.len() - by].to_vec();
-    for (mut image, number) in [(short(SECTOR), 12), (short(1), 1)] {
+    for (mut image, number) in [(short(SECTOR), 12), (image[..65 * SECTOR].to_vec(), 12), (short(1), 1)] {
         expect(both, &mut image, &format, number)?;
     }
     expect(both, &mut image, &format, 0)?;
     expect(both, &mut image, &add, 0)?;
-    expect(both, &mut image, &Call::Open { passphrase }, 0)
+    expect(both, &mut image, &Call::Open { passphrase }, 0)?;
+    image.resize(image.len() + SECTOR, 0x33);
+    let write = Call::Write { key: key.clone(), first: 0, units: 1, buffer: random.bytes(SECTOR) };
+    expect(both, &mut image, &write, 0)?;
+    expect(both, &mut image, &Call::Read { key, first: 0, units: 1, buffer: vec![0; SECTOR] }, 0)
 }
 
 fn expect(both: &mut Both, image: &mut Vec<u8>, call: &Call, number: u8) -> Result<(), String> {
@@ -272,8 +289,10 @@ impl Maker<'_> {
         let r = &mut *self.random;
         let length = self.base.profile.key_bytes;
         let stripes = if self.set.contains(&8) { 0 } else { r.range(1, 20) as u32 };
-        let payload = layout(stripes, length).1 as usize;
-        let sectors = if self.set.contains(&12) { r.range(2, payload - 1) } else { payload + r.range(0, 2) };
+        let payload = layout(stripes, length, ALIGNMENT).1 as usize;
+        let short = r.range(2, payload - 1);
+        let sectors =
+            if self.set.contains(&12) { r.pick(&[2, 65, payload - 1, short]) } else { payload + r.range(0, 2) };
         let mut image = r.bytes(sectors * SECTOR);
         if self.set.contains(&1) {
             let more = r.range(1, 511);

@@ -1,21 +1,27 @@
-//! Random lists of calls on one drive: formatted, foreign or damaged, with arguments that are mostly fair.
+//! Random lists of calls on one drive: formatted, with an old payload start, foreign or damaged; with arguments that are
+//! mostly fair.
 
 use crate::both::Both;
 use crate::damage;
-use crate::drives::{self, foreign, Drive};
+use crate::drives::{self, fair_format, foreign, image_for, old_start, Drive};
 use crate::random::Random;
-use model::header::{layout, Profile};
+use model::header::{Profile, ALIGNMENT, HEADER};
 use model::xts::SECTOR;
 use model::Call;
 
-/// One list of calls, at most `most` of them; gives how many were made.
-pub fn walk(both: &mut Both, random: &mut Random, most: usize) -> Result<usize, String> {
-    let mut made = 0;
-    let mut drive = start(both, random, &mut made)?;
+/// What a list begins on.
+pub const DRIVES: [&str; 4] = ["a new drive", "an old payload start", "a foreign drive", "a damaged drive"];
+
+/// One list of calls, at most `most` of them; gives the place in `DRIVES` of what it begins on, and how many were made.
+pub fn walk(both: &mut Both, random: &mut Random, most: usize) -> Result<(usize, usize), String> {
+    let on = random.pick(&[0, 0, 0, 1, 1, 1, 2, 2, 3, 3]);
+    let mut drive = start(both, random, on)?;
+    // A new drive is made by a call.
+    let mut made = usize::from(on == 0);
     let length = random.range(5, 40);
     while made < most && made < length {
         if random.chance(1, 30) {
-            disturb(random, &mut drive.image);
+            disturb(random, &mut drive);
         }
         let call = some_call(random, &drive);
         let number = both.run(&mut drive.image, &call)?;
@@ -24,27 +30,33 @@ pub fn walk(both: &mut Both, random: &mut Random, most: usize) -> Result<usize, 
         }
         made += 1;
     }
-    Ok(made)
+    Ok((on, made))
 }
 
-/// A byte anywhere beyond the header becomes another.
-fn disturb(random: &mut Random, image: &mut [u8]) {
-    if image.len() > 592 {
-        let at = random.range(592, image.len() - 1);
-        image[at] ^= random.range(1, 255) as u8;
+/// A byte beyond the header becomes another: in the first sector of an area or of the payload, or anywhere.
+fn disturb(random: &mut Random, drive: &mut Drive) {
+    let header = drive.header();
+    let area = header.slots[random.range(0, 7)].start;
+    let anywhere = random.range(0, drive.image.len() / SECTOR) as u32;
+    let sector = random.pick(&[area, header.payload, anywhere]);
+    let at = sector as usize * SECTOR + random.range(0, SECTOR - 1);
+    if (HEADER..drive.image.len()).contains(&at) {
+        drive.image[at] ^= random.range(1, 255) as u8;
     }
 }
 
-fn start(both: &mut Both, random: &mut Random, made: &mut usize) -> Result<Drive, String> {
+/// The drive of this place in `DRIVES`.
+fn start(both: &mut Both, random: &mut Random, on: usize) -> Result<Drive, String> {
     let (profile, key) = drives::profile_and_key(random);
-    let kind = random.range(0, 9);
-    if kind < 4 {
-        *made += 1;
+    if on == 0 {
         return formatted(both, random, profile, key);
     }
     let chance = random.range(1, 6) as u64;
-    let mut drive = foreign(random, &mut both.model.derivations, profile, &key, chance);
-    if kind >= 8 {
+    let mut drive = match on == 1 || on == 3 && random.chance(1, 2) {
+        true => old_start(random, profile, &key, chance),
+        false => foreign(random, &mut both.model.derivations, profile, &key, chance),
+    };
+    if on == 3 {
         wreck(random, &mut drive.image);
     }
     Ok(drive)
@@ -52,20 +64,11 @@ fn start(both: &mut Both, random: &mut Random, made: &mut usize) -> Result<Drive
 
 fn formatted(both: &mut Both, random: &mut Random, profile: &Profile, key: Vec<u8>) -> Result<Drive, String> {
     let call = fair_format(random, profile, key.clone());
-    let Call::Format { stripes, .. } = &call else { unreachable!("a format") };
-    let sectors = layout(*stripes, key.len()).1 as usize + random.range(0, 6);
-    let mut drive = Drive { image: random.bytes(sectors * SECTOR), key, passphrases: Default::default() };
+    let mut drive = Drive { image: image_for(random, &call, ALIGNMENT), key, passphrases: Default::default() };
     match both.run(&mut drive.image, &call)? {
         0 => Ok(drive),
         number => Err(format!("a fair format is refused by {number}: {call:?}")),
     }
-}
-
-fn fair_format(random: &mut Random, profile: &Profile, key: Vec<u8>) -> Call {
-    let uuid = (0..36).map(|_| random.range(33, 126) as u8).collect();
-    let profile = profile.number;
-    let stripes = random.range(1, 20) as u32;
-    Call::Format { profile, stripes, key, salt: random.salt(), count: random.range(1000, 1003) as u32, uuid }
 }
 
 /// One to three ways of damage, some bits of the header, the name of the other hash, or nothing but random bytes.
@@ -226,11 +229,14 @@ fn revoke(r: &mut Random, drive: &Drive) -> Call {
     Call::Revoke { slot, filler: stripes(r, drive, slot, 0) }
 }
 
+/// Most units that one call reads or writes: a payload may have a mebibyte of them.
+const MOST_UNITS: usize = 6;
+
 /// First unit, number of units and the buffer's length.
 fn span(r: &mut Random, drive: &Drive) -> (u64, u64, usize) {
     let whole = drive.image.len() / SECTOR;
     let payload = whole.saturating_sub(drive.header().payload as usize);
-    let units = r.range(0, payload);
+    let units = r.range(0, payload.min(MOST_UNITS));
     let first = r.range(0, payload - units) as u64;
     let first = if r.chance(1, RARE) { r.pick(&[payload as u64 + 1, u64::MAX, 1 << 55]) } else { first };
     let length = units * SECTOR;

@@ -1,5 +1,5 @@
 #!/bin/sh
-# Makes the four stored drives of crates/drives/data with cryptsetup (2.6.1 made those that are kept) and qemu-img (7.2).
+# Makes four of the stored drives of crates/drives/data with cryptsetup (2.6.1 made those that are kept) and qemu-img (7.2).
 # Run at the repository's top: tools/make_drives.sh OUT
 # The salts and random stripes are cryptsetup's own, so a new run makes other bytes, and drives that open alike.
 set -eu

@@ -6,18 +6,17 @@ use native.Mathlib.Omega.{arith}
 use Rattle.rules.specs.Profiles.{Table, aligned}
 use Rattle.rules.specs.Lawful.{LawfulTable}
 use Rattle.rules.specs.Layout.{areaStart}
-use Rattle.rules.specs.Facts.{Facts, SlotFacts, isEnabled, factsOf}
-use Rattle.rules.specs.Header.{headerChecks}
+use Rattle.rules.specs.Facts.{Facts, SlotFacts, isEnabled}
 use Rattle.rules.specs.Calls.{Call}
-use Rattle.rules.specs.Format.{FormatInput, format}
+use Rattle.rules.specs.Format.{FormatInput, keyBytesOf, format}
 use Rattle.rules.specs.Contracts.{DoesFormat}
 use Rattle.rules.proofs.ChecksLaws.{first-pass}
 use Rattle.rules.proofs.AlignedLaws.{aligned-lawful}
 use Rattle.profiles.specs.Suites.{alignment, built}
 use Rattle.profiles.proofs.Lawful.{built-lawful}
 use Rattle.screens.specs.Screens.{Screen, screen, slotScreen, detailScreen, Details, enabledBit, detailsOf, noDetails, Shows}
-use Rattle.screens.proofs.ScreenLaws.{accepted-screen}
-use Rattle.ledger.specs.Drive.{mapFrom, keyBytesOf, contentFacts, driveFacts}
+use Rattle.screens.proofs.ScreenLaws.{accepted-screen, screen-aligned}
+use Rattle.ledger.specs.Drive.{mapFrom, contentFacts, driveFacts}
 use Rattle.ledger.specs.Ledger.{Ledger, SlotEntry, empty, live, stateOf, countOf, contentOf, ledgerDrive, ledgerImage, ledgerFacts, startLedger}
 use Rattle.ledger.specs.Demand3.{FormatTyped, AllTyped}
 use Rattle.ledger.proofs.LedgerLaws.{GoodLedger, contentIn, facts-are, header-accepted}
@@ -91,11 +90,6 @@ screens-follow table lawful a typed image yes′ cs t =
       details-are = ap (detailScreen table) ends ∙ details-good table _ g;
     }
 
--- a screen looks at no alignment
-screen-aligned : {E : Type 0} (entry : SlotFacts → E) (zero : E) (table : Table) (A : ℕ) (image : List ℕ) → screen entry zero table image ≡ screen entry zero (aligned table A) image
-unfolding screen factsOf headerChecks
-screen-aligned entry zero table A image = refl
-
 -- of what the functions return and leave, on a drive with any alignment
 pub shown-aligned : (A : ℕ) → 1 ≤ A → A < 2 ^ 32 → (a : FormatInput) → FormatTyped a → (image after : List ℕ) → DoesFormat (aligned built A) a image 0 after
     → (cs : List Call) → AllTyped cs → (rs : List Returned) → Trace after cs rs → ShownFollow (aligned built A) a image after cs rs
@@ -104,8 +98,8 @@ shown-aligned A l m a typed image after f cs t rs trace =
     let ok = aligned-lawful built A built-lawful l m in
     let s = screens-follow table ok a typed image (sym (f .code-is)) cs t in
     let left = follows-aligned A l m a typed image after f cs t rs trace .image-is ∙ sym (demand-3 table ok a typed image (sym (f .code-is)) cs t .image-is) in
-    let slots = ap (slotScreen built) left ∙ screen-aligned enabledBit 0 built A _ ∙ s .slots-are in
-    let details = ap (detailScreen built) left ∙ screen-aligned detailsOf noDetails built A _ ∙ s .details-are in
+    let slots = ap (slotScreen built) left ∙ sym (screen-aligned enabledBit 0 built A _) ∙ s .slots-are in
+    let details = ap (detailScreen built) left ∙ sym (screen-aligned detailsOf noDetails built A _) ∙ s .details-are in
     record {
       slots-show = λ code enabled h. subst (λ (x : Screen ℕ). Shows x code enabled) slots h;
       details-show = λ code entries h. subst (λ (x : Screen Details). Shows x code entries) details h;

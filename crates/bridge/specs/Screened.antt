@@ -5,10 +5,10 @@ use Prim.Native.Nat.{ℕ}
 use Rattle.rules.specs.Profiles.{Table}
 use Rattle.rules.specs.Layout.{areaStart}
 use Rattle.rules.specs.Calls.{Call}
-use Rattle.rules.specs.Format.{FormatInput}
+use Rattle.rules.specs.Format.{FormatInput, keyBytesOf}
 use Rattle.profiles.specs.Suites.{built}
 use Rattle.screens.specs.Screens.{Screen, Details, slotScreen, detailScreen, Shows}
-use Rattle.ledger.specs.Drive.{mapFrom, keyBytesOf}
+use Rattle.ledger.specs.Drive.{mapFrom}
 use Rattle.ledger.specs.Ledger.{Ledger, SlotEntry, empty, live, countOf}
 use Rattle.ledger.specs.Demand3.{lastImage, lastLedger}
 use Rattle.bridge.specs.Trace.{Returned, lastLeft}

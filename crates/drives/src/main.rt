@@ -177,5 +177,5 @@ fn main() {
     drive_512(2, b"luks1-512.img");
     drive_256(3, b"luks1-sha256-256.img");
     drive_512(4, b"luks1-sha256-512.img");
-    drive_start_65(5, b"luks1-start-65.img");
+    drive_start_65(0, b"luks1-start-65.img");
 }

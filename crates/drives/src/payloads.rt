@@ -1,4 +1,4 @@
-// The payload that qemu-img wrote: its plaintext is known, byte i is 7 i modulo 251.
+// The payload of a drive, whose plaintext is known: byte i is 7 i modulo 251.
 use crate::report;
 use header::PayloadUnit;
 

@@ -1,7 +1,7 @@
-// One line for each thing found: the drive, by the number of its profile (5 is the one with the old start), what was tried, and ok or FAILED.
+// One line for each thing found: the drive, by the number of its profile (0 for the one with the old start), what was tried, and ok or FAILED.
 use libc::STDOUT_FILENO;
 
-// The drive's hash and the bits of its volume key; the last one's payload start.
+// The drive's hash and the bits of its volume key; of the one with the old start also that.
 fn name(drive: u64) {
     match drive {
         1 => {

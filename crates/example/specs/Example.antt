@@ -63,7 +63,7 @@ stripe = 200 ∷ 17 ∷ 5 ∷ 99 ∷ 0 ∷ 255 ∷ 128 ∷ 64 ∷ 31 ∷ 2 ∷ 7
 unfoldable pub input : FormatInput
 input = record { profile = 1; stripes = 2; key = theKey; salt = bytes 32 3; count = 2; uuid = bytes 36 0x61 }
 
--- 70 sectors: 68 before the payload, where area 8 ends with the first 65, and two of it, one of bytes 6 and one of bytes 9
+-- 70 sectors: 65 up to the end of area 8, three before the payload, and two of it, one of bytes 6 and one of bytes 9
 unfoldable pub image : List ℕ
 image = bytes (68 * 512) 7 ++ (bytes 512 6 ++ bytes 512 9)
 

@@ -63,7 +63,7 @@ pub record Figures : Type 0 where
   pub end-n-16 : areasEnd 16 32 ≡ 66
   -- with alignment 1 the payload begins there, as 01 has it
   pub aligned-1 : (n L : ℕ) → payloadStart 1 n L ≡ areasEnd n L
-  -- 02, "Wish 4": "2,051 and 4,037 become 4,096, and 65 becomes 2,048"
+  -- 02, Wish 4: "2,051 and 4,037 become 4,096, and 65 becomes 2,048"
   pub payload-32 : payloadStart alignment 4000 32 ≡ 4096
   pub payload-64 : payloadStart alignment 4000 64 ≡ 4096
   pub payload-n-1 : payloadStart alignment 1 32 ≡ 2048
@@ -76,11 +76,14 @@ pub record Figures : Type 0 where
   pub payload-64-n-1984 : payloadStart alignment 1984 64 ≡ 4096
   -- no format gives another start
   pub two-starts : (n L : ℕ) → n ≤ 4000 → L ≤ 64 → (eqb (payloadStart alignment n L) 2048 || eqb (payloadStart alignment n L) 4096) ≡ true
-  -- for payload 2,048: 1,048,576 bytes pass, 1,048,575 give 1, 1,048,064 give 12, and so do 33,280, which passed for payload 65
+  -- for payload 2,048: 1,048,576 bytes pass, 1,048,575 give 1, 1,048,064 give 12
   pub length-1048576 : (a : FormatInput) (image : List ℕ) → Plain a → length image ≡ 1048576 → format built a image .code ≡ 0
   pub length-1048575 : (a : FormatInput) (image : List ℕ) → Plain a → length image ≡ 1048575 → format built a image .code ≡ 1
   pub length-1048064 : (a : FormatInput) (image : List ℕ) → Plain a → length image ≡ 1048064 → format built a image .code ≡ 12
+  -- "For payload 65: 33,280 bytes pass, 33,279 give 1, 32,768 give 12": of these the first give 12 now
   pub length-33280 : (a : FormatInput) (image : List ℕ) → Plain a → length image ≡ 33280 → format built a image .code ≡ 12
+  pub length-33279 : (a : FormatInput) (image : List ℕ) → Plain a → length image ≡ 33279 → format built a image .code ≡ 1
+  pub length-32768 : (a : FormatInput) (image : List ℕ) → Plain a → length image ≡ 32768 → format built a image .code ≡ 12
   -- "Doubling: first byte 1 and zeros gives first byte 2; last byte 128 and zeros gives first byte 0x87"
   pub doubled-first : double (1 ∷ zeros 15) ≡ 2 ∷ zeros 15
   pub doubled-last : double (zeros 15 ++ 128 ∷ []) ≡ 0x87 ∷ zeros 15

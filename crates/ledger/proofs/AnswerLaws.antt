@@ -19,8 +19,9 @@ use Rattle.suite.specs.Units.{inUnits}
 use Rattle.rules.specs.Profiles.{Table}
 use Rattle.rules.specs.Facts.{SlotInput, slotOf, isEnabled, matches, candidate}
 use Rattle.rules.specs.Calls.{Call, openSlot, read, slotNumberOk, passphraseOk, keyOk, rangeChecks, earlyChecks, lateChecks, checks, answer, opened, bytesRead}
+use Rattle.rules.specs.Format.{keyBytesOf, suiteFor}
 use Rattle.rules.proofs.ChecksLaws.{Pass, first-pass}
-use Rattle.ledger.specs.Drive.{mapFrom, keyBytesOf, suiteFor, contentFacts, driveFacts}
+use Rattle.ledger.specs.Drive.{mapFrom, contentFacts, driveFacts}
 use Rattle.ledger.specs.Ledger.{Ledger, live, SectorEntry, atFormat, lastWriting, stateOf, countOf, saltOf, areaOf}
 use Rattle.ledger.specs.Ledger.{contentOf, sectorOf, ledgerDrive, ledgerFacts, ledgerAfter, settleEntry, enter}
 use Rattle.ledger.specs.Demand3.{entryOf, sectorEntryOf, noSector}

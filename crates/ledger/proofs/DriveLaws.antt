@@ -18,9 +18,9 @@ use Rattle.rules.specs.Lawful.{LawfulRow}
 use Rattle.rules.specs.Layout.{areaStart, areasEnd}
 use Rattle.rules.specs.Facts.{enabled, disabled, checksumOf}
 use Rattle.rules.specs.Step.{recordHead}
-use Rattle.rules.specs.Format.{FormatInput, payloadStartOf, headFields, slotRecord}
+use Rattle.rules.specs.Format.{FormatInput, rowOf, keyBytesOf, suiteFor, payloadStartOf, headFields, slotRecord}
 use Rattle.rules.proofs.FormatLaws.{length-slotRecord}
-use Rattle.ledger.specs.Drive.{SlotContent, Drive, mapFrom, rowOf, keyBytesOf, suiteFor, gapBytes, areaRoom, recordOf, roomOf, imageParts, driveImage}
+use Rattle.ledger.specs.Drive.{SlotContent, Drive, mapFrom, gapBytes, areaRoom, recordOf, roomOf, imageParts, driveImage}
 use Rattle.ledger.proofs.PartsLaws.{offset, part-is, inside, parts-drop, length-rows, length-uniform, row, RowsTo, length-mapFrom, getD-mapFrom}
 use Rattle.ledger.proofs.LayoutLaws.{stride, start-is, end-is, room-inner, room-last, room-fits, area-ends}
 use Rattle.ledger.proofs.AllLaws.{All, all-get}
@@ -124,7 +124,7 @@ module _ (table : Table) (d : Drive) (g : GoodDrive table d) where
   L = keyBytesOf table (d .input)
 
   -- where its payload stands, in sectors
-  abbrev pub start : ℕ
+  abbrev start : ℕ
   start = payloadStartOf table (d .input)
 
   pub content-ok : (k : ℕ) → k < 8 → GoodContent n L (contentAt d k)

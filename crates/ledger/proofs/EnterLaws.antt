@@ -20,10 +20,11 @@ use Rattle.rules.specs.Header.{headerChecks}
 use Rattle.rules.specs.Calls.{Call, add, change, revoke, openSlot, openAny, read, write, slotNumberOk, passphraseOk}
 use Rattle.rules.specs.Calls.{keyOk, countOk, randomOk, fillerOk, rangeChecks, earlyChecks, lateChecks, checks, answer}
 use Rattle.rules.specs.Step.{written, recordHead, slotWrites, enableWrites, disableWrites, writes, settle, step, run}
+use Rattle.rules.specs.Format.{keyBytesOf, suiteFor}
 use Rattle.rules.proofs.ChecksLaws.{Pass, accepted, first-append}
 use Rattle.rules.proofs.StepLaws.{numbered-checks, written-append}
 use Rattle.rules.proofs.ArgumentLaws.{number-in, passphrase-in}
-use Rattle.ledger.specs.Drive.{keyBytesOf, suiteFor, contentFacts, driveFacts}
+use Rattle.ledger.specs.Drive.{contentFacts, driveFacts}
 use Rattle.ledger.specs.Ledger.{Ledger, SlotEntry, empty, live, stateOf, countOf, saltOf, areaOf, contentOf, ledgerDrive}
 use Rattle.ledger.specs.Ledger.{ledgerImage, ledgerFacts, setSlot, ledgerAfter, settleEntry, enter, enterAll}
 use Rattle.ledger.specs.Demand3.{SlotTyped, Typed, AllTyped, noEntry, entryOf}

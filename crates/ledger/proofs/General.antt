@@ -9,9 +9,8 @@ use Rattle.rules.specs.Lawful.{LawfulTable}
 use Rattle.rules.specs.Facts.{Facts}
 use Rattle.rules.specs.Calls.{Call, add, change, revoke, openSlot, openAny, read, write, Answer}
 use Rattle.rules.specs.Step.{step, run}
-use Rattle.rules.specs.Format.{FormatInput, format}
+use Rattle.rules.specs.Format.{FormatInput, keyBytesOf, format}
 use Rattle.ledger.specs.Ledger.{Ledger, ledgerImage, ledgerFacts, setSlot, setSectors, ledgerAfter, settleEntry, enter, enterAll, startLedger}
-use Rattle.ledger.specs.Drive.{keyBytesOf}
 use Rattle.ledger.specs.Demand3.{FormatTyped, Typed, AllTyped, addAccepted, answersGiven, lastImage, ledgerAnswers, lastLedger, Demand3}
 use Rattle.ledger.proofs.LedgerLaws.{GoodLedger}
 use Rattle.ledger.proofs.EnterLaws.{step-follows, run-follows}

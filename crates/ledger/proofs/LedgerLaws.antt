@@ -16,9 +16,9 @@ use Rattle.rules.specs.Layout.{areaStart}
 use Rattle.rules.specs.Facts.{Facts, SlotInput, slotOf, checksumOf, factsOf}
 use Rattle.rules.specs.Header.{headerChecks}
 use Rattle.rules.specs.Step.{written, recordHead, slotWrites}
-use Rattle.rules.specs.Format.{FormatInput, payloadStartOf}
+use Rattle.rules.specs.Format.{FormatInput, keyBytesOf, suiteFor, payloadStartOf}
 use Rattle.rules.proofs.ChecksLaws.{Pass}
-use Rattle.ledger.specs.Drive.{SlotContent, mapFrom, keyBytesOf, suiteFor, driveImage, driveFacts}
+use Rattle.ledger.specs.Drive.{SlotContent, mapFrom, driveImage, driveFacts}
 use Rattle.ledger.specs.Ledger.{Ledger, SlotEntry, empty, live, SectorEntry, atFormat, lastWriting, stateOf, countOf, saltOf, areaOf}
 use Rattle.ledger.specs.Ledger.{contentOf, sectorOf, ledgerDrive, ledgerImage, ledgerFacts, setSlot, setSectors, writings}
 use Rattle.ledger.specs.Demand3.{noEntry}

@@ -15,10 +15,11 @@ use Rattle.suite.specs.Suite.{Suite}
 use Rattle.rules.specs.Profiles.{Table}
 use Rattle.rules.specs.Facts.{SlotInput, slotOf, isEnabled, enabled, candidate}
 use Rattle.rules.specs.Calls.{Call, add, change, revoke, openSlot, openAny, read, write, slotNumberOk, anyEnabled, otherEnabled, earlyChecks, lateChecks, checks, refused}
+use Rattle.rules.specs.Format.{keyBytesOf, suiteFor}
 use Rattle.rules.proofs.ChecksLaws.{Pass, accepted}
 use Rattle.rules.proofs.StepLaws.{numbered-checks}
 use Rattle.rules.proofs.ArgumentLaws.{number-in}
-use Rattle.ledger.specs.Drive.{mapFrom, keyBytesOf, suiteFor, contentFacts, driveFacts}
+use Rattle.ledger.specs.Drive.{mapFrom, contentFacts, driveFacts}
 use Rattle.ledger.specs.Ledger.{Ledger, SlotEntry, empty, live, stateOf, contentOf, ledgerDrive, ledgerFacts, setSlot, setSectors, ledgerAfter, settleEntry, enter, enterAll}
 use Rattle.ledger.specs.Demand3.{AllTyped, noEntry, SomeLive, isAdd, addAccepted}
 use Rattle.ledger.proofs.LedgerLaws.{GoodLedger}

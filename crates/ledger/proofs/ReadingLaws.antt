@@ -16,9 +16,9 @@ use Rattle.rules.specs.Profiles.{Table, profileAt}
 use Rattle.rules.specs.Layout.{areaStart, areasEnd, slots}
 use Rattle.rules.specs.Facts.{SlotFacts, slotAt, profileIn, factsOf}
 use Rattle.rules.specs.Header.{magic, version, sizeOk, recordOk, slotOk, areaEnd, inside, apart, allApart, soundChecks, headerChecks}
-use Rattle.rules.specs.Format.{payloadStartOf, headFields}
+use Rattle.rules.specs.Format.{keyBytesOf, payloadStartOf, headFields}
 use Rattle.rules.proofs.ChecksLaws.{Pass}
-use Rattle.ledger.specs.Drive.{SlotContent, Drive, mapFrom, keyBytesOf, recordOf, driveImage, contentFacts, driveFacts}
+use Rattle.ledger.specs.Drive.{SlotContent, Drive, mapFrom, recordOf, driveImage, contentFacts, driveFacts}
 use Rattle.ledger.proofs.PartsLaws.{upto, tab}
 use Rattle.ledger.proofs.LayoutLaws.{start-is, bytes-fit, sectors-fit, end-is, start-most, area-ends}
 use Rattle.ledger.proofs.DriveLaws.{GoodDrive, GoodContent, be32-field, recordFields, record-field, noContent, contentAt}

@@ -21,10 +21,10 @@ use Rattle.rules.specs.Lawful.{LawfulTable}
 use Rattle.rules.specs.Layout.{slots}
 use Rattle.rules.specs.Facts.{disabled}
 use Rattle.rules.specs.Header.{sizeOk}
-use Rattle.rules.specs.Format.{FormatInput, payloadStartOf, printable, formatChecks, headFields, slotRecord, headerOf, formatted, settleFormat, format}
+use Rattle.rules.specs.Format.{FormatInput, rowOf, keyBytesOf, payloadStartOf, printable, formatChecks, headFields, slotRecord, headerOf, formatted, settleFormat, format}
 use Rattle.rules.proofs.ChecksLaws.{Pass, accepted}
 use Rattle.rules.proofs.RowLaws.{lawful-row}
-use Rattle.ledger.specs.Drive.{Drive, mapFrom, rowOf, keyBytesOf, gapBytes, recordOf, roomOf, imageParts, driveImage}
+use Rattle.ledger.specs.Drive.{Drive, mapFrom, gapBytes, recordOf, roomOf, imageParts, driveImage}
 use Rattle.ledger.specs.Ledger.{empty, stateOf, countOf, saltOf, areaOf, contentOf, sectorOf, ledgerDrive, ledgerImage, sectorsIn, startLedger}
 use Rattle.ledger.specs.Demand3.{FormatTyped}
 use Rattle.ledger.proofs.LayoutLaws.{end-is, payload-least, payload-most}

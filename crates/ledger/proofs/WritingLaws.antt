@@ -14,9 +14,9 @@ use Rattle.rules.specs.Profiles.{Table}
 use Rattle.rules.specs.Layout.{areaStart}
 use Rattle.rules.specs.Facts.{Facts, slotOf}
 use Rattle.rules.specs.Step.{written, recordHead, slotWrites}
-use Rattle.rules.specs.Format.{payloadStartOf, headFields, slotRecord}
+use Rattle.rules.specs.Format.{keyBytesOf, payloadStartOf, headFields, slotRecord}
 use Rattle.rules.proofs.FormatLaws.{length-recordHead}
-use Rattle.ledger.specs.Drive.{SlotContent, Drive, mapFrom, keyBytesOf, gapBytes, areaRoom, recordOf, roomOf, imageParts, driveImage}
+use Rattle.ledger.specs.Drive.{SlotContent, Drive, mapFrom, gapBytes, areaRoom, recordOf, roomOf, imageParts, driveImage}
 use Rattle.ledger.proofs.PartsLaws.{offset, put, row-put, rows-splice, RowsTo, length-mapFrom, set-mapFrom, length-uniform}
 use Rattle.ledger.proofs.LayoutLaws.{stride, start-is, end-is, room-inner, room-fits, area-ends}
 use Rattle.ledger.proofs.AllLaws.{All, all-get, all-set}

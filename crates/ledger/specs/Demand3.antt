@@ -10,8 +10,7 @@ use Rattle.rules.specs.Profiles.{Table}
 use Rattle.rules.specs.Facts.{SlotInput}
 use Rattle.rules.specs.Calls.{Call, add, change, revoke, openSlot, openAny, read, write, Answer}
 use Rattle.rules.specs.Step.{step, run}
-use Rattle.rules.specs.Format.{FormatInput, format}
-use Rattle.ledger.specs.Drive.{keyBytesOf}
+use Rattle.rules.specs.Format.{FormatInput, keyBytesOf, format}
 use Rattle.ledger.specs.Ledger.{Ledger, SlotEntry, empty, live, SectorEntry, atFormat, lastWriting, ledgerImage, enterAll, startLedger}
 
 -- ---- arguments as Rattle's types have them: "Salts are 32 bytes, counts 32 bits"; what is not said here is not needed

@@ -4,11 +4,10 @@ use mathlib.Core.Bool.{cond}
 use Prim.Native.Nat.{ℕ, suc, _-_, _*_}
 use lib.Dec.{ltb}
 use Rattle.octets.specs.Octets.{zeros}
-use Rattle.suite.specs.Suite.{Suite}
-use Rattle.rules.specs.Profiles.{Profile, Table, profileAt}
+use Rattle.rules.specs.Profiles.{Table}
 use Rattle.rules.specs.Layout.{areaStart}
 use Rattle.rules.specs.Facts.{Facts, SlotFacts, checksumOf}
-use Rattle.rules.specs.Format.{FormatInput, payloadStartOf, headFields, slotRecord}
+use Rattle.rules.specs.Format.{FormatInput, rowOf, keyBytesOf, suiteFor, payloadStartOf, headFields, slotRecord}
 
 -- what a slot's record and its area hold; the record's start and stripes are format's
 pub record SlotContent : Type 0 where
@@ -28,20 +27,6 @@ module _ {ℓ κ} {A : Type ℓ} {B : Type κ} where
   unfoldable pub mapFrom : (ℕ → A → B) → ℕ → List A → List B
   mapFrom f i [] = []
   mapFrom f i (x ∷ xs) = f i x ∷ mapFrom f (suc i) xs
-
--- ---- the profile that format was given
-
--- the row of the table
-abbrev pub rowOf : Table → FormatInput → Profile
-rowOf table a = profileAt (table .rows) (a .profile)
-
--- L
-abbrev pub keyBytesOf : Table → FormatInput → ℕ
-keyBytesOf table a = (rowOf table a) .keyBytes
-
--- the suite
-abbrev pub suiteFor : Table → FormatInput → Suite
-suiteFor table a = table .suiteOf (a .profile)
 
 -- ---- the image
 

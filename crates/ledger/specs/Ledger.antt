@@ -11,8 +11,8 @@ use Rattle.rules.specs.Checks.{first}
 use Rattle.rules.specs.Profiles.{Table}
 use Rattle.rules.specs.Facts.{Facts, SlotInput, enabled, disabled, keyMaterial, candidate}
 use Rattle.rules.specs.Calls.{Call, add, change, revoke, openSlot, openAny, read, write, checks, Answer, answer, refused}
-use Rattle.rules.specs.Format.{FormatInput, payloadStartOf}
-use Rattle.ledger.specs.Drive.{SlotContent, Drive, mapFrom, keyBytesOf, suiteFor, driveImage, driveFacts}
+use Rattle.rules.specs.Format.{FormatInput, keyBytesOf, suiteFor, payloadStartOf}
+use Rattle.ledger.specs.Drive.{SlotContent, Drive, mapFrom, driveImage, driveFacts}
 
 -- "for each slot empty (zeros or the last filler), or live with key, passphrase, salt, count and random stripes"
 pub data SlotEntry : Type 0 where

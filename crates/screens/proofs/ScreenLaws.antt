@@ -11,7 +11,7 @@ use lib.ListN.{length, getD, take, set, replicate, List·getD-map}
 use lib.Seq.{take-suc, take-suc-set}
 use borrow.Author.Tests.{ne-eqb}
 use Rattle.rules.specs.Checks.{first}
-use Rattle.rules.specs.Profiles.{Table}
+use Rattle.rules.specs.Profiles.{Table, aligned}
 use Rattle.rules.specs.Facts.{Facts, SlotFacts, enabled, isEnabled, noSlot, slotOf, factsOf}
 use Rattle.rules.specs.Header.{headerChecks}
 use Rattle.profiles.specs.Suites.{built}
@@ -76,6 +76,12 @@ pub accepted-screen : {A : Type 0} (entry : SlotFacts → A) (zero : A) (table :
     → screen entry zero table image ≡ record { code = 0; entries = shown entry (factsOf table image) }
 unfolding screen
 accepted-screen entry zero table image e = rw e
+
+-- no screen looks at the alignment
+pub screen-aligned : {A : Type 0} (entry : SlotFacts → A) (zero : A) (table : Table) (n : ℕ) (image : List ℕ)
+    → screen entry zero (aligned table n) image ≡ screen entry zero table image
+unfolding screen factsOf headerChecks
+screen-aligned entry zero table n image = refl
 
 module _ {A : Type 0} (entry : SlotFacts → A) (zero : A) (image : List ℕ) (code : ℕ) (entries : List A) (e : code ≡ first (headerChecks built image)) where
   pub shows-zeros : (code ≡ 0 → ⊥) → entries ≡ replicate 8 zero → Shows (screen entry zero built image) code entries

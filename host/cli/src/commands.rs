@@ -38,26 +38,28 @@ pub fn format(given: &Given) -> Result<(), Failure> {
     confirm_loss(given, &image)?;
     let passphrase = passphrase::new(&source, "Passphrase for the new drive: ")?;
     let header = add_key(&mut image, FIRST_SLOT, &key, &passphrase, count)?;
-    image.write_back(&stages::of_format(&header))?;
     let payload = payload_shown(payload_units(&image)?);
+    image.write_back(&stages::of_format(&header))?;
     say(format!("made a drive with the UUID {uuid}; key slot {FIRST_SLOT} holds the passphrase\n{payload}"))
 }
 
-// A refusal of a format. Of a file that is too short it says how long it must be.
+// A refusal of a format. Of a file that is too short it says how long it must be, also where its length is refused before that
+// as no whole number of sectors.
 fn of_format(refusal: Refusal, input: &FormatInput, image: &ImageFile) -> Failure {
-    let least = match refusal {
-        Refusal::ShortImage => small::before_payload(input.profile, input.stripes),
-        other => Err(other),
-    };
-    let Ok(least) = least else { return Failure::refused(refusal) };
-    let sentence = format!(
-        "{} has {} bytes, and with this key size and these stripes a drive needs {} MiB ({least} bytes) and its payload; \
-         make it longer, or use a larger one",
-        shown(image.path()),
-        image.bytes().len(),
-        least >> 20
-    );
-    Failure::refused_because(refusal, sentence)
+    let (Refusal::ImageSize | Refusal::ShortImage) = refusal else { return Failure::refused(refusal) };
+    let length = image.bytes().len();
+    match small::before_payload(input.profile, input.stripes) {
+        Ok(least) if length < least => {
+            let sentence = format!(
+                "{} has {length} bytes, and with this key size and these stripes a drive needs {} MiB ({least} bytes) and its \
+                 payload; make it longer, or use a larger one",
+                shown(image.path()),
+                least >> 20
+            );
+            Failure::refused_because(refusal, sentence)
+        }
+        _ => Failure::refused(refusal),
+    }
 }
 
 // How long a payload is.

@@ -1,11 +1,11 @@
 //! An image file: opened, locked, and loaded into memory of this process. The engine works on that memory; the file changes
 //! only by `write_back` and `store`.
 use crate::failure::{self, shown, Failure};
-use crate::small;
+use crate::small::QuickChecksum;
 use crate::stages::Stage;
 use crate::system::{self, Memory};
 use mivrozh::header::{Header, SECTOR};
-use mivrozh::{Drive, Secret};
+use mivrozh::Drive;
 use std::fs::{File, OpenOptions, TryLockError};
 use std::io::{self, Seek, SeekFrom};
 use std::ops::Range;
@@ -88,11 +88,11 @@ impl ImageFile {
 
     /// Memory of the drive's length with its header and nothing else, for a thread that works on parts of the payload with
     /// the key that has opened the drive. The header has a checksum of that key that takes no time: each call derives it.
-    pub fn for_transfers(&self, key: &Secret) -> Result<Memory, Failure> {
+    pub fn for_transfers(&self, checksum: &QuickChecksum) -> Result<Memory, Failure> {
         let mut memory = memory(self.bytes().len(), &self.path)?;
         let lead = LEAD.min(self.bytes().len());
         memory.bytes_mut()[..lead].copy_from_slice(&self.bytes()[..lead]);
-        small::put_quick_checksum(memory.bytes_mut(), key).map_err(Failure::refused)?;
+        checksum.put(memory.bytes_mut());
         Ok(memory)
     }
 

@@ -37,7 +37,7 @@ fn scaled(count: u32, time: Duration, took: Duration) -> u32 {
 // How long an opening of a small drive in memory takes with this count.
 fn derivation_time(profile: Profile, count: u32) -> Result<Duration, Refusal> {
     let (key, passphrase) = (Secret::zeroed(profile.key_bytes()), Secret::zeroed(1));
-    let mut image = small::drive(profile, &key)?;
+    let mut image = small::drive(profile, &key, 1)?;
     let mut drive = Drive::over(&mut image[..]);
     drive.add(SLOT, &key, &SlotInput::new(&passphrase, &[0; 32], count, &[]))?;
     let start = Instant::now();

@@ -1,5 +1,5 @@
-//! Drives that the tool makes in memory: small ones, with one stripe a slot, to measure this machine by and to have a key's
-//! checksum from; and one of any size, to see where its payload starts.
+//! Drives that the tool makes in memory: to measure this machine by, to have a key's checksum from, and to see where a payload
+//! starts.
 use mivrozh::header::{Header, Names, SECTOR};
 use mivrozh::{Drive, FormatInput, Profile, Refusal, Secret};
 use std::ops::Range;
@@ -9,8 +9,6 @@ pub const LEAST_COUNT: u32 = 1000;
 
 // Where a header has the key's checksum, its salt and its count.
 const CHECKSUM: Range<usize> = 112..168;
-// With one stripe a slot, all of this stands before the payload.
-const LENGTH: usize = 1 << 20;
 // More than stands before any payload. Of so much memory only what is written takes room.
 const AMPLE: usize = 16 << 20;
 const UUID: &str = "00000000-0000-0000-0000-000000000000";
@@ -21,29 +19,34 @@ pub fn profile_of(image: &[u8]) -> Result<Profile, Refusal> {
 }
 
 /// A drive with this key, the least checksum count and no passphrase.
-pub fn drive(profile: Profile, key: &Secret) -> Result<Vec<u8>, Refusal> {
-    formatted(profile, key, 1, LENGTH)
-}
-
-/// How many bytes stand before the payload of a drive that is so made. Where that starts is the engine's to say, so it makes
-/// one.
-pub fn before_payload(profile: Profile, stripes: u32) -> Result<usize, Refusal> {
-    let image = formatted(profile, &Secret::zeroed(profile.key_bytes()), stripes, AMPLE)?;
-    Ok(Header::of(&image)?.payload_start as usize * SECTOR)
-}
-
-fn formatted(profile: Profile, key: &Secret, stripes: u32, length: usize) -> Result<Vec<u8>, Refusal> {
-    let mut image = vec![0; length];
+pub fn drive(profile: Profile, key: &Secret, stripes: u32) -> Result<Vec<u8>, Refusal> {
+    let mut image = vec![0; AMPLE];
     let input = FormatInput::new(profile, key, &[0; 32], LEAST_COUNT, UUID);
     Drive::over(&mut image[..]).format(&input.stripes(stripes))?;
     Ok(image)
 }
 
-/// Gives a header the checksum of this key at the least count, in place of its own. The hash is the header's.
-pub fn put_quick_checksum(header: &mut [u8], key: &Secret) -> Result<(), Refusal> {
-    let quick = drive(profile_of(header)?, key)?;
-    header[CHECKSUM].copy_from_slice(&quick[CHECKSUM]);
-    Ok(())
+/// How many bytes stand before the payload of a drive that is so made. Where that starts is the engine's to say, so it makes
+/// one.
+pub fn before_payload(profile: Profile, stripes: u32) -> Result<usize, Refusal> {
+    let image = drive(profile, &Secret::zeroed(profile.key_bytes()), stripes)?;
+    Ok(Header::of(&image)?.payload_start as usize * SECTOR)
+}
+
+/// The checksum of a key at the least count, with its salt and that count, as a header has them.
+pub struct QuickChecksum([u8; CHECKSUM.end - CHECKSUM.start]);
+
+impl QuickChecksum {
+    /// Of the key of this drive, with its hash.
+    pub fn of(image: &[u8], key: &Secret) -> Result<QuickChecksum, Refusal> {
+        let quick = drive(profile_of(image)?, key, 1)?;
+        Ok(QuickChecksum(std::array::from_fn(|i| quick[CHECKSUM.start + i])))
+    }
+
+    /// Gives it to a header of that drive in place of its own.
+    pub fn put(&self, header: &mut [u8]) {
+        header[CHECKSUM].copy_from_slice(&self.0);
+    }
 }
 
 #[cfg(test)]
@@ -67,13 +70,13 @@ mod tests {
     fn a_quick_checksum_is_the_same_keys() {
         for &profile in Profile::ALL {
             let (key, other) = (Secret::from(vec![7; profile.key_bytes()]), Secret::from(vec![8; profile.key_bytes()]));
-            let mut image = vec![0; LENGTH + 3 * SECTOR];
+            let mut image = vec![0; before_payload(profile, 1).expect("a drive") + 3 * SECTOR];
             let mut drive = Drive::over(&mut image[..]);
             drive.format(&FormatInput::new(profile, &key, &[3; 32], 5000, UUID).stripes(1)).expect("a drive");
             drive.add(1, &key, &SlotInput::new(&other, &[4; 32], 1000, &[])).expect("a passphrase");
             let before = image.clone();
             assert_eq!(profile_of(&image), Ok(profile));
-            put_quick_checksum(&mut image, &key).expect("a checksum");
+            QuickChecksum::of(&image, &key).expect("a checksum").put(&mut image);
             assert_ne!(image[CHECKSUM], before[CHECKSUM]);
             assert_eq!((&image[..112], &image[168..]), (&before[..112], &before[168..]), "nothing else is changed");
             assert_eq!(image[164..168], LEAST_COUNT.to_be_bytes());

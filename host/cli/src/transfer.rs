@@ -3,6 +3,7 @@ use crate::failure::{self, shown, Failure};
 use crate::image::ImageFile;
 use crate::passphrase::{fill, standard_input};
 use crate::pipeline::{self, Steps};
+use crate::small::QuickChecksum;
 use crate::system::{self, Memory};
 use mivrozh::header::{Header, SECTOR};
 use mivrozh::{Drive, PayloadUnit, Refusal, Secret};
@@ -137,7 +138,7 @@ impl Chunk {
     // For a worker, whose stack the engine will use.
     fn new(payload: &Payload) -> Result<Chunk, Failure> {
         mivrozh::lock_stack();
-        let memory = payload.image.for_transfers(payload.key)?;
+        let memory = payload.image.for_transfers(&payload.checksum)?;
         Ok(Chunk { memory, plain: Secret::zeroed(payload.plan.chunk as usize * SECTOR), first: 0, units: 0 })
     }
 
@@ -156,6 +157,8 @@ impl Chunk {
 struct Payload<'a> {
     image: &'a ImageFile,
     key: &'a Secret,
+    // Made once for all workers: the drive that it is taken from takes room.
+    checksum: QuickChecksum,
     start: u64,
     plan: Plan,
 }
@@ -163,7 +166,8 @@ struct Payload<'a> {
 impl Payload<'_> {
     fn new<'a>(image: &'a ImageFile, key: &'a Secret, units: Option<u64>) -> Result<Payload<'a>, Failure> {
         let header = Header::of(image.bytes()).map_err(Failure::refused)?;
-        Ok(Payload { image, key, start: header.payload_start.into(), plan: Plan::new(units) })
+        let checksum = QuickChecksum::of(image.bytes(), key).map_err(Failure::refused)?;
+        Ok(Payload { image, key, checksum, start: header.payload_start.into(), plan: Plan::new(units) })
     }
 }
 

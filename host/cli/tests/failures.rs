@@ -158,7 +158,6 @@ fn a_short_file() {
         for line in COMMANDS {
             unchanged(&folder, line).refused(1, "the image is smaller than 1,024 bytes or not a whole number");
         }
-        unchanged(&folder, "format --force --key-file one drive").refused(1, "the image is smaller than");
     }
     folder.put("drive", &whole[..(PAYLOAD_START - 1) * 512]);
     for line in COMMANDS {
@@ -170,27 +169,37 @@ fn a_short_file() {
 #[test]
 fn a_file_too_short_for_a_new_drive() {
     let folder = Folder::with_drive();
-    let short = |options: &str, sectors: usize, needs: &str| {
-        folder.put("drive", vec![0; sectors * 512]);
+    let short = |options: &str, length: usize, needs: &str| {
+        folder.put("drive", vec![0; length]);
         let said = unchanged(&folder, &format!("format {options} --key-file one drive"));
         let words = format!(
-            "drive has {} bytes, and with this key size and these stripes a drive needs {needs} and its payload; make it \
-             longer, or use a larger one",
-            sectors * 512
+            "drive has {length} bytes, and with this key size and these stripes a drive needs {needs} and its payload; make it \
+             longer, or use a larger one"
         );
-        said.refused(12, &words);
+        said.refused(if length < 1024 || !length.is_multiple_of(512) { 1 } else { 12 }, &words);
     };
     let (one, two) = ("1 MiB (1048576 bytes)", "2 MiB (2097152 bytes)");
-    for sectors in [2, 65, 2047] {
-        short("--stripes 1", sectors, one);
-        short("--key-size 256 --stripes 3967", sectors, one);
-        short("--hash sha256 --stripes 1983", sectors, one);
+    for length in [0, 1023, 1024, 65 * 512, 1_000_000, 2047 * 512, 2048 * 512 - 1] {
+        short("--stripes 1", length, one);
+        short("--key-size 256 --stripes 3967", length, one);
+        short("--hash sha256 --stripes 1983", length, one);
     }
-    for sectors in [2, 2048, 4095] {
-        short("", sectors, two);
-        short("--hash sha256 --key-size 256", sectors, two);
-        short("--key-size 256 --stripes 3968", sectors, two);
-        short("--stripes 1984", sectors, two);
+    for length in [0, 1024, 2048 * 512, 2_000_000, 4095 * 512, 4096 * 512 - 1] {
+        short("", length, two);
+        short("--hash sha256 --key-size 256", length, two);
+        short("--key-size 256 --stripes 3968", length, two);
+        short("--stripes 1984", length, two);
+    }
+}
+
+// A file that is long enough, but has no whole number of sectors; and one of which nobody can say how long it must be.
+#[test]
+fn a_file_of_no_whole_sectors_for_a_new_drive() {
+    let folder = Folder::with_drive();
+    for (options, length) in [("--stripes 1", 2048 * 512 + 1), ("", 4097 * 512 - 1), ("--stripes 4001", 1023)] {
+        folder.put("drive", vec![0; length]);
+        let said = unchanged(&folder, &format!("format {options} --key-file one drive"));
+        said.refused(1, "the image is smaller than 1,024 bytes or not a whole number of");
     }
 }
 

@@ -10,7 +10,7 @@ const UNITS: usize = 8;
 const SLOT_5: usize = 40;
 const SLOT_6: usize = 48;
 
-// A folder with a copy of the stored drive, and key files for its slot 1 and for new passphrases.
+// A folder with a copy of the stored drive, and key files for its slots 1 and 8 and for new passphrases.
 fn with_old_drive() -> Folder {
     let folder = Folder::new();
     let stored = Path::new(env!("CARGO_MANIFEST_DIR")).join("../../crates/drives/data/luks1-start-65.img");

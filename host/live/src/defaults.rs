@@ -20,7 +20,7 @@ pub fn defaults(folder: &Folder, checks: &mut Checks) -> Outcome<()> {
     Qemu { folder }.write(&image, PASSPHRASE, &plain)?;
     used(folder, checks, &image, &plain)?;
 
-    // Only qemu writes a payload, and from its start.
+    // Here too qemu writes the payload, from its start.
     checks.drive = "made by cryptsetup with its defaults".into();
     store(&image, &vec![0; (BEFORE + UNITS) * SECTOR])?;
     Cryptsetup { folder }.format_by_default(&image, PASSPHRASE)?;

@@ -4,13 +4,14 @@
 use crate::hands::{key_of, Hand};
 use crate::peers::{Cryptsetup, Qemu};
 use crate::screens::{agree, enabled, of_model};
-use crate::work::{load, random, salt, store, Checks, Folder, Kind, Outcome};
+use crate::work::{load, random, refused_with, salt, store, Checks, Folder, Kind, Outcome};
 use model::header::Header;
 use model::xts::SECTOR;
 use model::{Call, Model};
 use std::path::{Path, PathBuf};
 
-const FIRST: &str = "first passphrase";
+/// The passphrase of slot 1 of a new drive.
+pub const FIRST: &str = "first passphrase";
 const SECOND: &str = "2";
 const THIRD: &str = "a third passphrase, which is longer than the sixty-four bytes of a block of either hash";
 const FOURTH: &str = "fourth";
@@ -112,7 +113,7 @@ pub fn make(folder: &Folder, hand: &dyn Hand, maker: Maker, kind: Kind) -> Outco
 /// A drive as our format and add made it before Wish 4, by the model.
 fn made_before(image: Vec<u8>, kind: Kind) -> Outcome<Vec<u8>> {
     let (profile, key, count) = (kind.profile(), random(kind.bits / 8)?, 1000);
-    let uuid = b"6d69767a-6f68-4256-8000-0000before-4".to_vec();
+    let uuid = b"6d69767a-6f68-4256-8000-00000000bef0".to_vec();
     let format = Call::Format { profile, stripes: 4000, key: key.clone(), salt: salt()?, count, uuid };
     let (passphrase, stripes) = (FIRST.as_bytes().to_vec(), random(3999 * key.len())?);
     let add = Call::Add { slot: 1, key, passphrase, salt: salt()?, count, random: stripes };
@@ -138,7 +139,7 @@ impl Exchange<'_> {
         self.checks.check("after all this the payload is as it was", last == self.plain)
     }
 
-    /// The payload start is its maker's, and on a mebibyte where that are we.
+    /// The payload starts where its maker put it, for all who read the drive.
     fn start(&mut self, when: &str) -> Outcome<()> {
         let start = payload_start(self.maker, self.kind) as u64;
         let ours = u64::from(Header::read(&load(&self.image)?).payload);
@@ -146,15 +147,12 @@ impl Exchange<'_> {
         let c = &mut self.checks;
         c.check(&format!("{when}, the payload starts at sector {start}"), ours == start)?;
         c.check(&format!("{when}, luksDump shows that"), dump == start)?;
-        if self.maker == Maker::Ourselves {
-            c.check(&format!("{when}, that is a multiple of 2,048"), ours % 2048 == 0)?;
-        }
+        let info = self.qemu.payload_start(self.image());
         if self.qemu_can() {
-            let info = self.qemu.payload_start(self.image())?;
-            return self.checks.check(&format!("{when}, qemu-img info shows that"), info == start);
+            return self.checks.check(&format!("{when}, qemu-img info shows that"), info? == start);
         }
-        let reads = self.qemu.payload_start(self.image()).is_ok();
-        self.checks.check(&format!("{when}, qemu refuses a drive with that start"), !reads)
+        let refused = refused_with(info, "is overlapping with the encrypted payload");
+        self.checks.check(&format!("{when}, qemu refuses a drive with that start"), refused)
     }
 
     fn image(&self) -> &Path {

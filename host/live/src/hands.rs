@@ -67,7 +67,7 @@ impl Hand for Library {
     fn format(&self, image: &Path, kind: Kind, passphrase: &str) -> Outcome<()> {
         let mut bytes = load(image)?;
         let key = random(kind.bits / 8)?;
-        let uuid = b"6d69767a-6f68-4256-8000-00000000live";
+        let uuid = b"6d69767a-6f68-4256-8000-0000000011fe";
         accepted("format", raw::format(&mut bytes, kind.profile(), 4000, &key, &salt()?, COUNT, uuid))?;
         let stripes = random(stripes_of(&bytes, 1, 1))?;
         accepted("add", raw::add(&mut bytes, 1, &key, passphrase.as_bytes(), &salt()?, COUNT, &stripes))?;

@@ -9,6 +9,7 @@ mod defaults;
 mod exchange;
 mod hands;
 mod json;
+mod payloads;
 mod peers;
 mod rebuild;
 mod screens;
@@ -53,6 +54,7 @@ fn run(checks: &mut Checks) -> Outcome<()> {
     println!("{}", work::run("qemu-img", &["--version"])?.lines().next().unwrap_or_default());
     let folder = Folder::new()?;
     exchanges(&folder, checks)?;
+    payloads::payloads(&folder, checks)?;
     rebuilds(&folder, checks)?;
     stored::stored(&folder, checks)?;
     defaults::defaults(&folder, checks)

@@ -1,7 +1,7 @@
 //! cryptsetup and qemu-img as they are used on image files. Slots are counted as ours, from 1; theirs count from 0.
 
 use crate::screens::{self, Shown};
-use crate::work::{load, output, run, text, Folder, Kind, Outcome};
+use crate::work::{load, output, run, store, text, Folder, Kind, Outcome};
 use std::path::Path;
 
 const COUNT: [&str; 2] = ["--pbkdf-force-iterations", "1000"];
@@ -85,6 +85,39 @@ impl Cryptsetup<'_> {
 
     pub fn uuid(&self, image: &Path) -> Outcome<String> {
         run("cryptsetup", &["luksUUID", text(image)]).map(|said| said.trim().to_owned())
+    }
+
+    /// The payload, which has so many bytes. A payload is behind a device of the kernel where cryptsetup opens a drive; but it
+    /// deciphers and enciphers by itself where a drive of version 2 leaves its key, for none or for another. So a copy does.
+    pub fn read(&self, image: &Path, passphrase: &str, length: usize) -> Outcome<Vec<u8>> {
+        let [copy, header] = ["copy for cryptsetup", "header of the copy"].map(|name| self.folder.path.join(name));
+        let _ = std::fs::remove_file(&header);
+        store(&copy, &load(image)?)?;
+        self.convert(&copy, "luks2")?;
+        self.reencrypt(&copy, passphrase, &["--decrypt", "--header", text(&header)])?;
+        // The payload is now where the header was.
+        load(&copy)?.get(..length).map(<[u8]>::to_vec).ok_or("cryptsetup has made the copy too short".into())
+    }
+
+    /// Writes the payload anew, enciphered under another key of cryptsetup's choice, and that key into the passphrase's slot.
+    pub fn rewrite(&self, image: &Path, kind: Kind, passphrase: &str) -> Outcome<()> {
+        self.convert(image, "luks2")?;
+        // Twice: only a header's checksum number 0 goes back to version 1, and the new key's is by turns 1 and 0.
+        for _ in 0..2 {
+            let slot = ["--pbkdf", "pbkdf2", "--hash", kind.hash.name(), "--resilience", "none"];
+            self.reencrypt(image, passphrase, &[&slot[..], &COUNT].concat())?;
+        }
+        self.convert(image, "luks1")
+    }
+
+    fn convert(&self, image: &Path, version: &str) -> Outcome<()> {
+        run("cryptsetup", &["convert", "--batch-mode", "--disable-locks", "--type", version, text(image)]).map(|_| ())
+    }
+
+    fn reencrypt(&self, image: &Path, passphrase: &str, options: &[&str]) -> Outcome<()> {
+        let file = self.folder.file("passphrase", passphrase.as_bytes())?;
+        let first = ["reencrypt", "--batch-mode", "--disable-locks", "--force-offline-reencrypt"];
+        run("cryptsetup", &[&first[..], &["--key-file", text(&file)], options, &[text(image)]].concat()).map(|_| ())
     }
 
     pub fn volume_key(&self, image: &Path, passphrase: &str) -> Outcome<Vec<u8>> {

@@ -1,7 +1,7 @@
 //! Our format and add, given a peer's key, salts, counts and stripes, make that peer's header and areas byte for byte; the
 //! payload start too, where cryptsetup puts it as it likes.
 
-use crate::exchange::{make, payload_start, Maker, UNITS};
+use crate::exchange::{make, payload_start, Maker, FIRST, UNITS};
 use crate::hands::Library;
 use crate::peers::{Cryptsetup, Qemu};
 use crate::work::{load, random, store, Checks, Folder, Kind, Outcome};
@@ -11,7 +11,6 @@ use model::slots::Derivations;
 use model::xts::SECTOR;
 use std::path::Path;
 
-const FIRST: &str = "first passphrase";
 const OTHER: &str = "another passphrase, in slot 7";
 /// The slots in use and their passphrases. Slot 7's record crosses a sector's edge.
 const SLOTS: [(u8, &str); 2] = [(1, FIRST), (7, OTHER)];

@@ -4,7 +4,7 @@
 use crate::hands::{key_of, Hand, Library, Tool};
 use crate::peers::{Cryptsetup, Qemu};
 use crate::screens::{agree, of_model};
-use crate::work::{load, random, store, Checks, Folder, Outcome};
+use crate::work::{load, random, refused_with, store, Checks, Folder, Outcome};
 use model::header::Header;
 use model::xts::SECTOR;
 use model::{Call, Model};
@@ -25,8 +25,9 @@ pub fn stored(folder: &Folder, checks: &mut Checks) -> Outcome<()> {
         store(&image, &load(&stored)?)?;
         used(checks, hand, &image)?;
     }
-    let reads = [Cryptsetup { folder }.slots(&image).is_ok(), Qemu { folder }.slots(&image).is_ok()];
-    checks.check("cryptsetup and qemu refuse its 15 stripes", reads == [false; 2])
+    let (cryptsetup, qemu) = (Cryptsetup { folder }.slots(&image), Qemu { folder }.slots(&image));
+    checks.check("cryptsetup refuses its 15 stripes", refused_with(cryptsetup, "LUKS keyslot 0 is invalid"))?;
+    checks.check("qemu refuses its 15 stripes", refused_with(qemu, "stripes 15 != 4000"))
 }
 
 /// We open it, change its slots, and read and write its payload.

@@ -102,6 +102,11 @@ pub fn run(program: &str, arguments: &[&str]) -> Outcome<String> {
     Err(format!("{program} {}: {}: {}", arguments.join(" "), out.status, said.trim()))
 }
 
+/// Has it failed, with these words?
+pub fn refused_with<T>(outcome: Outcome<T>, words: &str) -> bool {
+    outcome.is_err_and(|said| said.contains(words))
+}
+
 pub fn text(path: &Path) -> &str {
     path.to_str().expect("the folder's path is text")
 }

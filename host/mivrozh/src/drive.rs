@@ -158,7 +158,7 @@ impl<I: AsRef<[u8]>> Drive<I> {
 impl<I: AsRef<[u8]> + AsMut<[u8]>> Drive<I> {
     /// Makes a new drive, with no passphrase yet: every key slot is free. The payload starts on a whole mebibyte and keeps its
     /// bytes, so the image has 2 MiB and the payload with 4,000 stripes; 1 MiB and the payload are enough with up to 3,967
-    /// stripes and a key of 32 bytes, and with up to 1,983 and one of 64.
+    /// stripes and a key of 32 bytes, and with up to 1,983 and one of 64. Other tools read 4,000 stripes only.
     pub fn format(&mut self, input: &FormatInput) -> Result<(), Refusal> {
         Refusal::answer(raw::format(
             self.image.as_mut(),

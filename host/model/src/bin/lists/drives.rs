@@ -96,8 +96,9 @@ pub fn old_start(random: &mut Random, profile: &Profile, key: &[u8], chance: u64
     let alignment = if random.chance(1, 4) { ALIGNMENT } else { 1 };
     let image = image_for(random, &call, alignment);
     let mut model = Model::aligned(1);
-    let image = model.step(&image, &call).image;
-    let mut drive = Drive { image, key: key.to_vec(), passphrases: Default::default() };
+    let made = model.step(&image, &call);
+    assert_eq!(made.number, 0, "{call:?}");
+    let mut drive = Drive { image: made.image, key: key.to_vec(), passphrases: Default::default() };
     enable_some(random, &mut model.derivations, &mut drive, chance);
     drive
 }

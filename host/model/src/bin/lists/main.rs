@@ -65,15 +65,17 @@ fn run(options: &Options, both: &mut Both) -> Result<(), String> {
     if same == 0 || first == 0 || neither == 0 {
         return Err("a kind of pair was not met".into());
     }
-    let (mut made, mut lists) = (0, [0; walks::DRIVES.len()]);
-    while made < options.calls {
-        let failed = |e| format!("random list {}: {e}", lists.iter().sum::<usize>() + 1);
-        let (on, calls) = walks::walk(both, &mut random, options.calls - made).map_err(failed)?;
-        lists[on] += 1;
-        made += calls;
+    let (mut made, mut lists) = (0, [0; walks::BEGINNINGS.len()]);
+    for (i, on) in walks::TURNS.into_iter().cycle().enumerate() {
+        if made >= options.calls {
+            break;
+        }
+        made += walks::walk(both, &mut random, on, options.calls - made)
+            .map_err(|e| format!("random list {}, on {}: {e}", i + 1, walks::BEGINNINGS[on as usize]))?;
+        lists[on as usize] += 1;
     }
     println!("random lists: {} with {made} calls", lists.iter().sum::<usize>());
-    for (name, lists) in walks::DRIVES.iter().zip(lists) {
+    for (name, lists) in walks::BEGINNINGS.iter().zip(lists) {
         println!("  {name:24} {lists:6}");
     }
     Ok(())

@@ -148,7 +148,7 @@ fn changed(
 }
 
 /// Key bytes, stripes and payload start: 01's figures, as Wish 4 of 02 has them.
-const FIGURES: [(usize, u32, usize); 8] = [
+const FIGURES: [(usize, u32, usize); 9] = [
     (32, 1, 2048),
     (32, 15, 2048),
     (32, 16, 2048),
@@ -156,6 +156,7 @@ const FIGURES: [(usize, u32, usize); 8] = [
     (32, 3968, 4096),
     (32, 4000, 4096),
     (64, 1983, 2048),
+    (64, 1984, 4096),
     (64, 4000, 4096),
 ];
 

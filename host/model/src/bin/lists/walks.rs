@@ -10,14 +10,27 @@ use model::xts::SECTOR;
 use model::Call;
 
 /// What a list begins on.
-pub const DRIVES: [&str; 4] = ["a new drive", "an old payload start", "a foreign drive", "a damaged drive"];
+#[derive(Clone, Copy, PartialEq)]
+pub enum Beginning {
+    New,
+    OldStart,
+    Foreign,
+    Damaged,
+}
 
-/// One list of calls, at most `most` of them; gives the place in `DRIVES` of what it begins on, and how many were made.
-pub fn walk(both: &mut Both, random: &mut Random, most: usize) -> Result<(usize, usize), String> {
-    let on = random.pick(&[0, 0, 0, 1, 1, 1, 2, 2, 3, 3]);
+use Beginning::{Damaged, Foreign, New, OldStart};
+
+/// The names of the beginnings, in their order.
+pub const BEGINNINGS: [&str; 4] = ["a new drive", "an old payload start", "a foreign drive", "a damaged drive"];
+
+/// Lists begin on these by turns, so that a short run has all of them too.
+pub const TURNS: [Beginning; 10] = [New, OldStart, Foreign, Damaged, New, OldStart, Foreign, Damaged, New, OldStart];
+
+/// One list of calls, at most `most` of them; gives how many were made.
+pub fn walk(both: &mut Both, random: &mut Random, on: Beginning, most: usize) -> Result<usize, String> {
     let mut drive = start(both, random, on)?;
     // A new drive is made by a call.
-    let mut made = usize::from(on == 0);
+    let mut made = usize::from(on == New);
     let length = random.range(5, 40);
     while made < most && made < length {
         if random.chance(1, 30) {
@@ -30,36 +43,36 @@ pub fn walk(both: &mut Both, random: &mut Random, most: usize) -> Result<(usize,
         }
         made += 1;
     }
-    Ok((on, made))
+    Ok(made)
 }
 
-/// A byte beyond the header becomes another: in the first sector of an area or of the payload, or anywhere.
+/// A byte beyond the header becomes another: of an area, of the payload, or anywhere.
 fn disturb(random: &mut Random, drive: &mut Drive) {
-    let header = drive.header();
-    let area = header.slots[random.range(0, 7)].start;
-    let anywhere = random.range(0, drive.image.len() / SECTOR) as u32;
-    let sector = random.pick(&[area, header.payload, anywhere]);
-    let at = sector as usize * SECTOR + random.range(0, SECTOR - 1);
-    if (HEADER..drive.image.len()).contains(&at) {
-        drive.image[at] ^= random.range(1, 255) as u8;
+    let (header, least, end) = (drive.header(), HEADER as u128, drive.image.len() as u128);
+    let area = header.slots[random.range(0, 7)].area(header.key_bytes);
+    let payload = (header.payload as u128 * SECTOR as u128, end);
+    let (from, to) = random.pick(&[area, payload, (least, end)]);
+    let (from, to) = (from.max(least) as usize, to.min(end) as usize);
+    // An area may lie outside a damaged image, and a payload may be empty.
+    if from < to {
+        drive.image[random.range(from, to - 1)] ^= random.range(1, 255) as u8;
     }
 }
 
-/// The drive of this place in `DRIVES`.
-fn start(both: &mut Both, random: &mut Random, on: usize) -> Result<Drive, String> {
+fn start(both: &mut Both, random: &mut Random, on: Beginning) -> Result<Drive, String> {
     let (profile, key) = drives::profile_and_key(random);
-    if on == 0 {
-        return formatted(both, random, profile, key);
-    }
     let chance = random.range(1, 6) as u64;
-    let mut drive = match on == 1 || on == 3 && random.chance(1, 2) {
-        true => old_start(random, profile, &key, chance),
-        false => foreign(random, &mut both.model.derivations, profile, &key, chance),
-    };
-    if on == 3 {
-        wreck(random, &mut drive.image);
+    match on {
+        New => formatted(both, random, profile, key),
+        OldStart => Ok(old_start(random, profile, &key, chance)),
+        Foreign => Ok(foreign(random, &mut both.model.derivations, profile, &key, chance)),
+        Damaged => {
+            let whole = random.pick(&[OldStart, Foreign]);
+            let mut drive = start(both, random, whole)?;
+            wreck(random, &mut drive.image);
+            Ok(drive)
+        }
     }
-    Ok(drive)
 }
 
 fn formatted(both: &mut Both, random: &mut Random, profile: &Profile, key: Vec<u8>) -> Result<Drive, String> {
@@ -229,7 +242,7 @@ fn revoke(r: &mut Random, drive: &Drive) -> Call {
     Call::Revoke { slot, filler: stripes(r, drive, slot, 0) }
 }
 
-/// Most units that one call reads or writes: a payload may have a mebibyte of them.
+/// Most units that one call reads or writes: a payload may be a mebibyte long.
 const MOST_UNITS: usize = 6;
 
 /// First unit, number of units and the buffer's length.

@@ -1,7 +1,8 @@
 /*
- * The life of a drive from C: made, given two passphrases, opened, written, read, changed and revoked, in memory. In between it
- * shows which slots are enabled. Every result is checked, and some refusals too. What is secret is wiped on every way out, and the
- * stack after every call that had a key.
+ * The life of a drive from C: made, given two passphrases, opened, written, read, changed and revoked, in memory. In between
+ * it shows which slots are enabled. What add, change and revoke do goes to a second memory, which stands for a disk, by their
+ * lists of sector writes alone. Every result is checked, and some refusals too. What is secret is wiped on every way out, and
+ * the stack after every call that had a key.
  */
 #define _DEFAULT_SOURCE
 #include <mivrozh.h>
@@ -14,6 +15,8 @@
 /* Profile 2: hash sha1 and a key of 64 bytes. Profile 4 is the same with sha256. */
 enum { PROFILE = 2, KEY = 64, STRIPES = 4000, COUNT = 1000, UNITS = 8, PAYLOAD = UNITS * 512, PAYLOAD_START = 4096 };
 enum { IMAGE = (PAYLOAD_START + UNITS) * 512, RANDOM = (STRIPES - 1) * KEY, FILLER = STRIPES * KEY };
+/* A write of a list: the sector's number and its bytes. The list of one slot has its area and two sectors of the header. */
+enum { ENTRY = 4 + 512, LIST = ENTRY * ((FILLER + 511) / 512 + 2) };
 
 /* For the show these stand in the program. In earnest a passphrase is read into memory that is wiped. */
 static const char FIRST[] = "the first passphrase", SECOND[] = "the second one", THIRD[] = "a third";
@@ -23,9 +26,9 @@ static const char UUID[] = "6a2b1f0e-3c4d-4e5f-8a9b-0c1d2e3f4a5b";
 static struct {
     uint8_t *bytes;
     size_t length;
-} buffers[8];
+} buffers[10];
 static size_t made;
-static uint8_t *image, *key, *opened, *salt, *stripes, *filler, *plain, *back;
+static uint8_t *image, *key, *opened, *salt, *stripes, *filler, *list, *disk, *plain, *back;
 
 static uint8_t *buffer(size_t length) {
     uint8_t *bytes = calloc(length, 1);
@@ -49,7 +52,7 @@ static void wipe(void) {
 
 /* Says what was done; ends the program where the result is another than expected. */
 static void expect(const char *what, unsigned result, unsigned expected) {
-    printf("%-44s %u\n", what, result);
+    printf("%-46s %u\n", what, result);
     if (result != expected) {
         fprintf(stderr, "%s: %u was expected\n", what, expected);
         exit(1);
@@ -84,14 +87,39 @@ static unsigned format(void) {
     return result;
 }
 
+/* Here a file or a device would be brought to a state that a loss of power leaves as it is, as by fdatasync(2). */
+static void flush(void) {
+}
+
+/*
+ * Carries out the list of an accepted call, as mivrozh.h says: flushed before sector 1, after it, and after sector 0; and
+ * before all, since what a killed program has written may still be in the system's cache.
+ */
+static void carry_out(size_t length) {
+    const uint8_t *entry;
+    flush();
+    for (entry = list; entry < list + length; entry += ENTRY) {
+        size_t sector = (size_t)entry[0] << 24 | (size_t)entry[1] << 16 | (size_t)entry[2] << 8 | entry[3];
+        if (sector == 1) flush();
+        memcpy(disk + sector * 512, entry + 4, 512);
+        if (sector <= 1) flush();
+    }
+}
+
+/* Is the disk's header, and are its key areas, what the image has? */
+static unsigned disk_is_image(void) {
+    return memcmp(disk, image, PAYLOAD_START * 512) == 0;
+}
+
 static unsigned add(uint8_t slot, const char *passphrase) {
     unsigned result;
     randomise(salt, 32);
     randomise(stripes, RANDOM);
     result = mivrozh_add(image, IMAGE, slot, key, KEY, octets(passphrase), strlen(passphrase), salt, COUNT,
-                         stripes, RANDOM);
+                         stripes, RANDOM, list, LIST);
     mivrozh_wipe_stack();
     explicit_bzero(stripes, RANDOM);
+    if (result == 0) carry_out(LIST);
     return result;
 }
 
@@ -101,15 +129,19 @@ static unsigned change(uint8_t from, const char *old, uint8_t to, const char *ne
     randomise(stripes, RANDOM);
     randomise(filler, FILLER);
     result = mivrozh_change(image, IMAGE, from, octets(old), strlen(old), to, octets(new_one), strlen(new_one), salt, COUNT,
-                            stripes, RANDOM, filler, FILLER);
+                            stripes, RANDOM, filler, FILLER, list, 2 * LIST);
     mivrozh_wipe_stack();
     explicit_bzero(stripes, RANDOM);
+    if (result == 0) carry_out(2 * LIST);
     return result;
 }
 
 static unsigned revoke(uint8_t slot) {
+    unsigned result;
     randomise(filler, FILLER);
-    return mivrozh_revoke(image, IMAGE, slot, filler, FILLER);
+    result = mivrozh_revoke(image, IMAGE, slot, filler, FILLER, list, LIST);
+    if (result == 0) carry_out(LIST);
+    return result;
 }
 
 /* The slot that the passphrase opens, whose key must be the drive's; 0 where none does. */
@@ -167,7 +199,9 @@ int main(void) {
     if (atexit(wipe) != 0) return 1;
     image = buffer(IMAGE), key = buffer(KEY), opened = buffer(66), salt = buffer(32);
     stripes = buffer(RANDOM), filler = buffer(FILLER), plain = buffer(PAYLOAD), back = buffer(PAYLOAD);
+    list = buffer(2 * LIST), disk = buffer(IMAGE);
     expect("format", format(), 0);
+    memcpy(disk, image, IMAGE);
     expect("  none is", enabled_slots(), 0);
     expect("open with no passphrase there: refused", slot_of(FIRST), 0);
     expect("add the first passphrase, slot 1", add(1, FIRST), 0);
@@ -178,10 +212,14 @@ int main(void) {
     expect("the second opens slot", slot_of(SECOND), 7);
     check_payload();
     expect("change slot 7 to slot 2", change(7, SECOND, 2, THIRD), 0);
+    expect("  the disk has all of it", disk_is_image(), 1);
     expect("  their numbers, a digit for each", enabled_slots(), 12);
     expect("the second opens nothing", slot_of(SECOND), 0);
     expect("the third opens slot", slot_of(THIRD), 2);
+    expect("revoke slot 1, with a list too short: refused",
+           mivrozh_revoke(image, IMAGE, 1, filler, FILLER, list, LIST - 1), 20);
     expect("revoke slot 1", revoke(1), 0);
+    expect("  the disk has all of it", disk_is_image(), 1);
     expect("  its number", enabled_slots(), 2);
     expect("the first opens nothing", slot_of(FIRST), 0);
     expect("the third opens slot", slot_of(THIRD), 2);

@@ -22,8 +22,26 @@
  *   - Keys, passphrases, random bytes and `opened` are wiped by their owner. A call leaves parts of keys in the stack below
  *     its caller: mivrozh_wipe_stack, at the end of this file, wipes that. What must not reach the swap or a core dump is
  *     locked by its owner (mlock, MADV_DONTDUMP). The Rust binding does all of this.
- *   - A changed image is written back to the disk in an order that a loss of power survives: key area, then sector 1, then
- *     sector 0. Before a changed slot's old area is overwritten on the disk, the new slot is there whole and enabled.
+ *   - What an add, a change or a revoke has changed goes to the disk by its list, as LISTS says.
+ *
+ * LISTS. An add, a change or a revoke that is accepted changes the image and fills a lent buffer with the list of its sector
+ * writes. Each is 516 bytes: the number of a sector of the image, four bytes with the most significant first, and the 512
+ * bytes that the sector gets. First come the sectors of the slot's n * L bytes of area, rising, (n * L + 511) / 512 of them,
+ * the last whole with its old rest; then sector 1, then sector 0. So a list has 516 * ((n * L + 511) / 512 + 2) bytes. That
+ * of a change is the list of its add, by the n of `to`, and then that of its revoke, by the n of `from`. The buffer is exactly
+ * so long. Carried out in full, the list turns the image before the call into the one after.
+ *   To carry it out: flush, so that the image before is on the disk, also what a killed program has left in the system's
+ * cache; write the area's sectors, in any order, and flush; write sector 1 and flush; write sector 0 and flush. Of a change
+ * do so with both halves. The power may fail at any time. It is taken that a disk writes each sector wholly or not at all,
+ * that no other sector is harmed, also where the disk's own sectors are larger than 512 bytes, and that what was flushed is
+ * there. Where a flush fails, what the disk holds is known only when it is read anew, as after a restart.
+ *   After a cut the header check passes, every other slot opens as before, and of a change the old passphrase or the new one
+ * opens. An add, a revoke, or a change whose `to` is still disabled: make the same call once more, before any other; it ends
+ * the work, or (add, revoke) is refused with 15 since it is done. A change whose `to` is enabled: do not repeat it, revoke
+ * `from`; refused with 15, it is done. With the same salt, random bytes and filler the image is the uncut one, byte for byte;
+ * with new ones the work is ended as well.
+ *   A cut revoke may leave a slot that is enabled and opens with no passphrase, and so may a cut change of its `from`; till
+ * that is ended, the check for 18 counts that slot as another one that is enabled.
  *
  * COST. A derivation is PBKDF2 with HMAC of the drive's hash over a slot's iteration count, done for each 20 bytes of its
  * result with sha1 and for each 32 with sha256: 2 times the count for a key of 32 bytes and 4 times for one of 64 with sha1,
@@ -51,7 +69,7 @@
  *   17  the key's checksum differs from the header's: wrong key or passphrase
  *   18  no other slot is enabled
  *   19  first + units exceeds the payload
- *   20  buffer not 512 * units bytes
+ *   20  buffer not 512 * units bytes, or not as long as the list of an add, change or revoke
  * "Header" below stands for the checks 1, 2, 3, 4, 5, 6.
  */
 #ifndef MIVROZH_H
@@ -89,11 +107,13 @@ uint8_t mivrozh_format(uint8_t *image, size_t image_len, uint8_t profile, uint32
  * Puts the master key under a passphrase into a free slot: splits it into n stripes, enciphers them into the slot's area
  * under a key derived from the passphrase, and enables the slot.
  *   random   (n - 1) * L bytes, the stripes but the last
- * Refusals, in order: header, 13, 15 (slot enabled), 9, 14, 10, 16, 17.
+ *   list     the sector writes, 516 * ((n * L + 511) / 512 + 2) bytes; as it was where refused
+ * Refusals, in order: header, 13, 15 (slot enabled), 9, 14, 10, 16, 20, 17.
  * Cost: one derivation of 20 bytes with the header's count, and one of L bytes with `count`.
  */
-uint8_t mivrozh_add(uint8_t *image, size_t image_len, uint8_t slot, const uint8_t *key, size_t key_len, const uint8_t *passphrase,
-                    size_t passphrase_len, const uint8_t salt[32], uint32_t count, const uint8_t *random, size_t random_len);
+uint8_t mivrozh_add(uint8_t *image, size_t image_len, uint8_t slot, const uint8_t *key, size_t key_len,
+                    const uint8_t *passphrase, size_t passphrase_len, const uint8_t salt[32], uint32_t count,
+                    const uint8_t *random, size_t random_len, uint8_t *list, size_t list_len);
 
 /*
  * Opens one slot: recovers the master key that its area holds under the passphrase.
@@ -113,20 +133,25 @@ uint8_t mivrozh_open(const uint8_t *image, size_t image_len, const uint8_t *pass
 /*
  * Changes a passphrase: opens slot `from`, adds its key to the free slot `to` under the new passphrase, revokes `from`.
  *   random   (n - 1) * L bytes, by the stripes of `to`; filler: n * L bytes, by the stripes of `from`
- * Refusals, in order: header, 13 (either slot), 15 (`from` disabled or `to` enabled), 14 (either passphrase), 10, 16, 17.
+ *   list     the sector writes of the add and then those of the revoke: as many bytes as the lists of both slots, each by its
+ *            own n; as it was where refused
+ * Refusals, in order: header, 13 (either slot), 15 (`from` disabled or `to` enabled), 14 (either passphrase), 10, 16, 20, 17.
  * Cost: two derivations of L bytes, with the count of `from` and with `count`, and one of 20 bytes with the header's.
  */
-uint8_t mivrozh_change(uint8_t *image, size_t image_len, uint8_t from, const uint8_t *old_passphrase, size_t old_len, uint8_t to,
-                       const uint8_t *new_passphrase, size_t new_len, const uint8_t salt[32], uint32_t count,
-                       const uint8_t *random, size_t random_len, const uint8_t *filler, size_t filler_len);
+uint8_t mivrozh_change(uint8_t *image, size_t image_len, uint8_t from, const uint8_t *old_passphrase, size_t old_len,
+                       uint8_t to, const uint8_t *new_passphrase, size_t new_len, const uint8_t salt[32], uint32_t count,
+                       const uint8_t *random, size_t random_len, const uint8_t *filler, size_t filler_len,
+                       uint8_t *list, size_t list_len);
 
 /*
  * Revokes a slot: overwrites its area with the filler and disables it. No passphrase is asked for.
  *   filler   n * L bytes
- * Refusals, in order: header, 13, 15 (slot disabled), 18, 16.
+ *   list     the sector writes, 516 * ((n * L + 511) / 512 + 2) bytes; as it was where refused
+ * Refusals, in order: header, 13, 15 (slot disabled), 18, 16, 20.
  * Cost: no derivation.
  */
-uint8_t mivrozh_revoke(uint8_t *image, size_t image_len, uint8_t slot, const uint8_t *filler, size_t filler_len);
+uint8_t mivrozh_revoke(uint8_t *image, size_t image_len, uint8_t slot, const uint8_t *filler, size_t filler_len,
+                       uint8_t *list, size_t list_len);
 
 /*
  * Shows which slots are enabled, and nothing else. No passphrase is asked for.

@@ -6,7 +6,7 @@ ghost use Prim.Native.Nat.{ℕ};
 ghost use Rattle.rules.specs.Checks.{first};
 ghost use Rattle.rules.specs.Facts.{slotInput};
 ghost use Rattle.rules.specs.Calls.{add, earlyChecks};
-ghost use Rattle.rules.specs.Contracts.{Does};
+ghost use Rattle.rules.specs.Contracts.{DoesListed};
 ghost use Rattle.profiles.specs.Suites.{built};
 ghost use Rattle.header.specs.Refusals.{number};
 ghost use Rattle.header.specs.Records.{factsIn, HeaderOk};
@@ -19,10 +19,11 @@ fn add_check(
     passphrase: &[u8],
     count: u32,
     random: &[u8],
+    list: &[u8],
 ) -> Refusal
     requires { ⌜ HeaderOk (now image) ⌝ }
     ensures { λ r. ⌜ ((salt : List ℕ) → number r ≡ first (earlyChecks (factsIn (now (image .entry)))
-        (add slot (now (key .entry)) (slotInput (now (passphrase .entry)) salt count (now (random .entry)))))) ⌝ }
+        (add slot (now (key .entry)) (slotInput (now (passphrase .entry)) salt count (now (random .entry))) (now (list .entry))))) ⌝ }
 {
     if !header::arguments::slot_number_ok(slot) {
         return Refusal::BadSlot;
@@ -42,11 +43,15 @@ fn add_check(
     if !header::arguments::random_ok(image, slot, random) {
         return Refusal::BadLength;
     }
+    if !sectors::list_ok(image, slot, list) {
+        return Refusal::BadBuffer;
+    }
     Refusal::Accepted
 }
 
-// Adds a passphrase for the master key: the slot's area is filled, its record enabled with this salt and count.
-// The contract rules out an add that is accepted and writes nothing, and one that says 17 to every key.
+// Adds a passphrase for the master key: the slot's area is filled, its record enabled with this salt and count. The list has the
+// sector writes of it.
+// The contract rules out an add that is accepted and writes nothing, and one whose list has the bytes of the image before it.
 pub fn add(
     image: &mut [u8],
     slot: u8,
@@ -55,22 +60,25 @@ pub fn add(
     salt: &[u8; 32],
     count: u32,
     random: &[u8],
+    list: &mut [u8],
 ) -> Refusal
-    ensures { λ r. ⌜ Does built (now (image .entry))
-        (add slot (now (key .entry)) (slotInput (now (passphrase .entry)) (now (salt .entry)) count (now (random .entry))))
-        (number r) (now (image .exit)) ⌝ }
+    ensures { λ r. ⌜ DoesListed built (now (image .entry))
+        (add slot (now (key .entry)) (slotInput (now (passphrase .entry)) (now (salt .entry)) count (now (random .entry))) (now (list .entry)))
+        (number r) (now (image .exit)) (now (list .entry)) (now (list .exit)) ⌝ }
 {
     let h = header::check::header_check(image);
     if header::number_of(h) != 0 {
         return h;
     }
-    let r = add_check(image, slot, key, passphrase, count, random);
+    let r = add_check(image, slot, key, passphrase, count, random, list);
     if header::number_of(r) != 0 {
         return r;
     }
     if !slots::key_matches(image, key) {
         return Refusal::WrongKey;
     }
+    let area = sectors::area_of(image, slot);
     slots::enable_slot(image, slot, key, passphrase, salt, count, random);
+    sectors::put_list(list, 0, image, area);
     r
 }

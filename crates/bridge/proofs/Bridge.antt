@@ -1,5 +1,6 @@
 -- From the contracts to the rules: what a function ensures is the whole step, and a trace of calls is the run of which the theorem speaks.
 use mathlib.Core.Path.{_≡_, refl, sym, ap, _∙_}
+use mathlib.Core.Logic.{_⊎_, inl, inr}
 use mathlib.Core.List.{List, [], _∷_, _++_, map}
 use mathlib.Core.Bool.{Bool, true, false}
 use Prim.Native.Nat.{ℕ, _^_, _≤_, _<_}
@@ -8,11 +9,11 @@ use lib.Dec.{eqb}
 use borrow.Author.Tests.{eq-eqb}
 use Rattle.octets.proofs.BoolLaws.{no}
 use Rattle.rules.specs.Checks.{first}
-use Rattle.rules.specs.Profiles.{aligned}
+use Rattle.rules.specs.Profiles.{Table, aligned}
 use Rattle.rules.specs.Facts.{Facts, factsOf}
 use Rattle.rules.specs.Header.{headerChecks}
 use Rattle.rules.specs.Calls as calls
-use Rattle.rules.specs.Calls.{Call, add, change, revoke, openSlot, openAny, read, write, checks, done, answer, noKey, refused, bufferAfter}
+use Rattle.rules.specs.Calls.{Call, add, change, revoke, openSlot, openAny, read, write, checks, Answer, done, answer, noKey, refused, bufferAfter}
 use Rattle.rules.specs.Step.{Run, writes, written, settle, step, run}
 use Rattle.rules.specs.Format.{FormatInput, format}
 use Rattle.rules.specs.Contracts.{DoesFormat}
@@ -21,41 +22,51 @@ use Rattle.profiles.specs.Suites.{alignment, built}
 use Rattle.profiles.proofs.Lawful.{built-lawful}
 use Rattle.ledger.specs.Demand3.{FormatTyped, AllTyped}
 use Rattle.ledger.proofs.General.{demand-3}
-use Rattle.bridge.specs.Trace.{Returned, changed, opened, filled, Kind, changing, opening, reading, kindOf, bufferOf, Ensured, imageLeft, answerIn, Trace, lastLeft, FollowsLedger}
+use Rattle.bridge.specs.Trace.{Returned, listed, changed, opened, filled, Kind, listing, changing, opening, reading}
+use Rattle.bridge.specs.Trace.{kindOf, bufferOf, Ensured, imageLeft, answerIn, Trace, lastLeft, FollowsLedger}
 
 -- a call of one kind is of no other
 abbrev rank : Kind → ℕ
 rank changing = 0
 rank opening = 1
 rank reading = 2
+rank listing = 3
 
 other : {A : Type 0} {k l : Kind} → k ≡ l → eqb (rank k) (rank l) ≡ false → A
 other {k = k} {l = l} e d = no (sym d ∙ eq-eqb (rank k) (rank l) (ap rank e))
 
+neither : {A : Type 0} {k l m : Kind} → (k ≡ l) ⊎ (k ≡ m) → eqb (rank k) (rank l) ≡ false → eqb (rank k) (rank m) ≡ false → A
+neither (inl e) d d′ = other e d
+neither (inr e) d d′ = other e d′
+
 -- ---- a step of each kind: what it says, and what it leaves alone
+
+-- an answer that is a number and nothing else
+abbrev number : ℕ → Answer
+number n = record { code = n; slot = 0; keyLength = 0; key = []; bytes = [] }
 
 module _ (f : Facts) (image : List ℕ) (r : ℕ) where
   -- calls that change the image answer a number and nothing else
-  only-number : (c : Call) (b : Bool) → kindOf c ≡ changing → settle f c image r b .said ≡ answerIn (changed (settle f c image r b .said .code) image)
-  unfolding settle answer done refused noKey answerIn
-  only-number (add k key x) true h = refl
-  only-number (add k key x) false h = refl
-  only-number (change k passphrase to x filler) true h = refl
-  only-number (change k passphrase to x filler) false h = refl
-  only-number (revoke k filler) true h = refl
-  only-number (revoke k filler) false h = refl
-  only-number (openSlot k passphrase) b h = other h refl
-  only-number (openAny passphrase) b h = other h refl
-  only-number (read key u n buffer) b h = other h refl
+  only-number : (c : Call) (b : Bool) → (kindOf c ≡ listing) ⊎ (kindOf c ≡ changing) → settle f c image r b .said ≡ number (settle f c image r b .said .code)
+  unfolding settle answer done refused noKey
+  only-number (add k key x list) true h = refl
+  only-number (add k key x list) false h = refl
+  only-number (change k passphrase to x filler list) true h = refl
+  only-number (change k passphrase to x filler list) false h = refl
+  only-number (revoke k filler list) true h = refl
+  only-number (revoke k filler list) false h = refl
+  only-number (openSlot k passphrase) b h = neither h refl refl
+  only-number (openAny passphrase) b h = neither h refl refl
+  only-number (read key u n buffer) b h = neither h refl refl
   only-number (write key u n buffer) true h = refl
   only-number (write key u n buffer) false h = refl
 
   -- openings leave the image, and return no bytes
   only-key : (c : Call) (b : Bool) → kindOf c ≡ opening → (settle f c image r b .image ≡ image) × (settle f c image r b .said .bytes ≡ [])
   unfolding settle answer calls.opened refused writes written
-  only-key (add k key x) b h = other h refl
-  only-key (change k passphrase to x filler) b h = other h refl
-  only-key (revoke k filler) b h = other h refl
+  only-key (add k key x list) b h = other h refl
+  only-key (change k passphrase to x filler list) b h = other h refl
+  only-key (revoke k filler list) b h = other h refl
   only-key (openSlot k passphrase) true h = (refl, refl)
   only-key (openSlot k passphrase) false h = (refl, refl)
   only-key (openAny passphrase) true h = (refl, refl)
@@ -67,9 +78,9 @@ module _ (f : Facts) (image : List ℕ) (r : ℕ) where
   only-bytes : (c : Call) (b : Bool) → eqb r 0 ≡ b → kindOf c ≡ reading
       → settle f c image r b ≡ record { said = answerIn (filled (settle f c image r b .said .code) (bufferAfter (settle f c image r b .said) (bufferOf c))); image = image }
   unfolding settle answer refused noKey writes written bufferAfter answerIn
-  only-bytes (add k key x) b e h = other h refl
-  only-bytes (change k passphrase to x filler) b e h = other h refl
-  only-bytes (revoke k filler) b e h = other h refl
+  only-bytes (add k key x list) b e h = other h refl
+  only-bytes (change k passphrase to x filler list) b e h = other h refl
+  only-bytes (revoke k filler list) b e h = other h refl
   only-bytes (openSlot k passphrase) b e h = other h refl
   only-bytes (openAny passphrase) b e h = other h refl
   only-bytes (read key u n buffer) true e h = refl
@@ -84,9 +95,12 @@ module _ (image : List ℕ) (c : Call) where
 
   pub ensured-step : (r : Returned) → Ensured image c r → step built image c ≡ record { said = answerIn r; image = imageLeft image r }
   unfolding step answerIn
+  ensured-step (listed r after list) e =
+      let s = only-number (factsOf built image) image decided c (eqb decided 0) (inl (e .0)) in
+      λ j. record { said = (s ∙ ap number (sym (e .1 .code-is))) j; image = sym (e .1 .image-is) j }
   ensured-step (changed r after) e =
-      let s = only-number (factsOf built image) image decided c (eqb decided 0) (e .0) in
-      λ j. record { said = (s ∙ ap (λ k. answerIn (changed k image)) (sym (e .1 .code-is))) j; image = sym (e .1 .image-is) j }
+      let s = only-number (factsOf built image) image decided c (eqb decided 0) (inr (e .0)) in
+      λ j. record { said = (s ∙ ap number (sym (e .1 .code-is))) j; image = sym (e .1 .image-is) j }
   ensured-step (opened r slot keyLength key) e =
       let s = only-key (factsOf built image) image decided c (eqb decided 0) (e .0) in
       let d = e .1 in
@@ -112,16 +126,21 @@ trace-run image (c ∷ cs) (r ∷ rs) t =
 
 -- ---- the theorem, of what the functions return and leave
 
--- 02, Wish 4: "Drives with the old start are read and changed as before". A drive was formatted with some alignment A (before Wish 4 with 1),
--- and the calls' functions are called on it one after the other
-pub follows-aligned : (A : ℕ) → 1 ≤ A → A < 2 ^ 32 → (a : FormatInput) → FormatTyped a → (image after : List ℕ) → DoesFormat (aligned built A) a image 0 after
-    → (cs : List Call) → AllTyped cs → (rs : List Returned) → Trace after cs rs → FollowsLedger (aligned built A) a image after cs rs
-follows-aligned A l m a typed image after f cs typed-calls rs t =
-    let table = aligned built A in
-    let d = demand-3 table (aligned-lawful built A built-lawful l m) a typed image (sym (f .code-is)) cs typed-calls in
-    let e : run table (format table a image .image) cs ≡ record { answers = map answerIn rs; image = lastLeft after rs } =
-    ap (λ x. run table x cs) (sym (f .image-is)) ∙ run-aligned built A after cs ∙ trace-run after cs rs t in
-    record { image-is = sym (ap (λ r. r .image) e) ∙ d .image-is; answers-are = sym (ap (λ r. r .answers) e) ∙ d .answers-are }
+-- a drive was formatted with some alignment A (before Wish 4 with 1), and the calls' functions are called on it one after the other
+module _ (A : ℕ) (l : 1 ≤ A) (m : A < 2 ^ 32) (a : FormatInput) (typed : FormatTyped a) (image after : List ℕ) (f : DoesFormat (aligned built A) a image 0 after)
+    (cs : List Call) (typed-calls : AllTyped cs) (rs : List Returned) (t : Trace after cs rs) where
+  abbrev table : Table
+  table = aligned built A
+
+  -- what they answered and left is what the theorem's list does
+  pub trace-ends : run (aligned built A) (format (aligned built A) a image .image) cs ≡ record { answers = map answerIn rs; image = lastLeft after rs }
+  trace-ends = ap (λ x. run table x cs) (sym (f .image-is)) ∙ run-aligned built A after cs ∙ trace-run after cs rs t
+
+  -- 02, Wish 4: "Drives with the old start are read and changed as before"
+  pub follows-aligned : FollowsLedger (aligned built A) a image after cs rs
+  follows-aligned =
+      let d = demand-3 table (aligned-lawful built A built-lawful l m) a typed image (sym (f .code-is)) cs typed-calls in
+      record { image-is = sym (ap (λ r. r .image) trace-ends) ∙ d .image-is; answers-are = sym (ap (λ r. r .answers) trace-ends) ∙ d .answers-are }
 
 -- format's function accepts and leaves `after`, on the built alignment
 pub follows-ledger : (a : FormatInput) → FormatTyped a → (image after : List ℕ) → DoesFormat built a image 0 after → (cs : List Call) → AllTyped cs

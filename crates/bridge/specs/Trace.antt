@@ -7,36 +7,37 @@ use lib.Dec.{eqb}
 use Rattle.rules.specs.Profiles.{Table}
 use Rattle.rules.specs.Calls.{Call, add, change, revoke, openSlot, openAny, read, write, Answer}
 use Rattle.rules.specs.Format.{FormatInput}
-use Rattle.rules.specs.Contracts.{Does, DoesOpen, DoesRead}
+use Rattle.rules.specs.Contracts.{Does, DoesListed, DoesOpen, DoesRead}
 use Rattle.profiles.specs.Suites.{built}
 use Rattle.ledger.specs.Ledger.{ledgerImage}
 use Rattle.ledger.specs.Demand3.{ledgerAnswers, lastLedger}
 
 -- what a function returned, and what it left in what it was lent
 pub data Returned : Type 0 where
-  changed : (code : ℕ) (image : List ℕ) → Returned  -- adding::add, changing::change, revoking::revoke, payload::write
+  listed : (code : ℕ) (image list : List ℕ) → Returned  -- adding::add, changing::change, revoking::revoke
+  changed : (code : ℕ) (image : List ℕ) → Returned  -- payload::write
   opened : (code slot keyLength : ℕ) (key : List ℕ) → Returned  -- opening::open_slot, opening::open
   filled : (code : ℕ) (buffer : List ℕ) → Returned  -- payload::read
 
--- calls that are lent the image to change it, that open it, and that read it into a buffer
+-- calls that are lent the image to change it, with a buffer for the list of writes or without, that open it, and that read it into a buffer
 pub data Kind : Type 0 where
-  changing opening reading : Kind
+  listing changing opening reading : Kind
 
 -- the kind of a call
 abbrev pub kindOf : Call → Kind
-kindOf (add k key x) = changing
-kindOf (change k passphrase to x filler) = changing
-kindOf (revoke k filler) = changing
+kindOf (add k key x list) = listing
+kindOf (change k passphrase to x filler list) = listing
+kindOf (revoke k filler list) = listing
 kindOf (openSlot k passphrase) = opening
 kindOf (openAny passphrase) = opening
 kindOf (read key u n buffer) = reading
 kindOf (write key u n buffer) = changing
 
--- the buffer that a read is lent
+-- the buffer that a call is lent to fill it
 abbrev pub bufferOf : Call → List ℕ
-bufferOf (add k key x) = []
-bufferOf (change k passphrase to x filler) = []
-bufferOf (revoke k filler) = []
+bufferOf (add k key x list) = list
+bufferOf (change k passphrase to x filler list) = list
+bufferOf (revoke k filler list) = list
 bufferOf (openSlot k passphrase) = []
 bufferOf (openAny passphrase) = []
 bufferOf (read key u n buffer) = buffer
@@ -44,18 +45,21 @@ bufferOf (write key u n buffer) = []
 
 -- the `ensures` of the function of a call on an image
 abbrev pub Ensured : List ℕ → Call → Returned → Type 0
+Ensured image c (listed r after list) = (kindOf c ≡ listing) × DoesListed built image c r after (bufferOf c) list
 Ensured image c (changed r after) = (kindOf c ≡ changing) × Does built image c r after
 Ensured image c (opened r slot keyLength key) = (kindOf c ≡ opening) × DoesOpen built image c r slot keyLength key
 Ensured image c (filled r after) = (kindOf c ≡ reading) × DoesRead built image c r (bufferOf c) after
 
 -- openings and reads are lent the image shared, and leave it
 abbrev pub imageLeft : List ℕ → Returned → List ℕ
+imageLeft image (listed r after list) = after
 imageLeft image (changed r after) = after
 imageLeft image (opened r slot keyLength key) = image
 imageLeft image (filled r buffer) = image
 
 -- the answer (01, "The answer that demand 3 compares") in what was returned
 unfoldable pub answerIn : Returned → Answer
+answerIn (listed r after list) = record { code = r; slot = 0; keyLength = 0; key = []; bytes = [] }
 answerIn (changed r after) = record { code = r; slot = 0; keyLength = 0; key = []; bytes = [] }
 answerIn (opened r slot keyLength key) = record { code = r; slot = slot; keyLength = keyLength; key = key; bytes = [] }
 answerIn (filled r buffer) = record { code = r; slot = 0; keyLength = 0; key = []; bytes = cond (eqb r 0) buffer [] }

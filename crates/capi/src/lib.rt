@@ -8,7 +8,7 @@ ghost use lib.ListN.{length};
 ghost use Rattle.rules.specs.Facts.{slotInput};
 ghost use Rattle.rules.specs.Calls.{add, change, revoke, openSlot, openAny, read, write};
 ghost use Rattle.rules.specs.Format.{formatInput};
-ghost use Rattle.rules.specs.Contracts.{Does, DoesRead, DoesFormat, FillsOpened};
+ghost use Rattle.rules.specs.Contracts.{Does, DoesListed, DoesRead, DoesFormat, FillsOpened};
 ghost use Rattle.profiles.specs.Suites.{built};
 ghost use Rattle.header.specs.Refusals.{number};
 ghost use Rattle.screens.specs.Screens.{slotScreen, detailScreen, Shows, ShowsArrays};
@@ -73,11 +73,13 @@ pub extern "C" fn mivrozh_add(
     salt: &[u8; 32],
     count: u32,
     random: &[u8],
+    list: &mut [u8],
 ) -> u8
-    ensures { λ r. ⌜ Does built (now (image .entry))
-        (add slot (now (key .entry)) (slotInput (now (passphrase .entry)) (now (salt .entry)) count (now (random .entry)))) r (now (image .exit)) ⌝ }
+    ensures { λ r. ⌜ DoesListed built (now (image .entry))
+        (add slot (now (key .entry)) (slotInput (now (passphrase .entry)) (now (salt .entry)) count (now (random .entry))) (now (list .entry)))
+        r (now (image .exit)) (now (list .entry)) (now (list .exit)) ⌝ }
 {
-    header::number_of(adding::add(image, slot, key, passphrase, salt, count, random))
+    header::number_of(adding::add(image, slot, key, passphrase, salt, count, random, list))
 }
 
 #[no_mangle]
@@ -110,19 +112,32 @@ pub extern "C" fn mivrozh_change(
     count: u32,
     random: &[u8],
     filler: &[u8],
+    list: &mut [u8],
 ) -> u8
-    ensures { λ r. ⌜ Does built (now (image .entry))
-        (change from (now (old .entry)) to (slotInput (now (new .entry)) (now (salt .entry)) count (now (random .entry))) (now (filler .entry)))
-        r (now (image .exit)) ⌝ }
+    ensures { λ r. ⌜ DoesListed built (now (image .entry)) (change from (now (old .entry)) to
+        (slotInput (now (new .entry)) (now (salt .entry)) count (now (random .entry))) (now (filler .entry)) (now (list .entry)))
+        r (now (image .exit)) (now (list .entry)) (now (list .exit)) ⌝ }
 {
-    header::number_of(changing::change(image, from, old, to, new, salt, count, random, filler))
+    header::number_of(changing::change(
+        image,
+        from,
+        old,
+        to,
+        new,
+        salt,
+        count,
+        random,
+        filler,
+        list,
+    ))
 }
 
 #[no_mangle]
-pub extern "C" fn mivrozh_revoke(image: &mut [u8], slot: u8, filler: &[u8]) -> u8
-    ensures { λ r. ⌜ Does built (now (image .entry)) (revoke slot (now (filler .entry))) r (now (image .exit)) ⌝ }
+pub extern "C" fn mivrozh_revoke(image: &mut [u8], slot: u8, filler: &[u8], list: &mut [u8]) -> u8
+    ensures { λ r. ⌜ DoesListed built (now (image .entry)) (revoke slot (now (filler .entry)) (now (list .entry)))
+        r (now (image .exit)) (now (list .entry)) (now (list .exit)) ⌝ }
 {
-    header::number_of(revoking::revoke(image, slot, filler))
+    header::number_of(revoking::revoke(image, slot, filler, list))
 }
 
 #[no_mangle]

@@ -1,17 +1,18 @@
 // Change: a slot is opened with its passphrase, its key added to a second slot under a new one, and the first revoked.
 use header::Refusal;
 ghost use mathlib.Core.Path.{_≡_};
-ghost use mathlib.Core.List.{List, _++_};
+ghost use mathlib.Core.List.{List};
 ghost use mathlib.Core.Bool.{true, _&&_, not};
-ghost use Prim.Native.Nat.{ℕ};
+ghost use Prim.Native.Nat.{ℕ, _+_};
 ghost use Rattle.rules.specs.Checks.{first};
 ghost use Rattle.rules.specs.Facts.{slotOf, isEnabled, slotInput};
-ghost use Rattle.rules.specs.Calls.{change, earlyChecks, slotNumberOk, passphraseOk, keyOk, countOk, randomOk, fillerOk};
-ghost use Rattle.rules.specs.Step.{written, enableWrites, disableWrites};
-ghost use Rattle.rules.specs.Contracts.{Does};
+ghost use Rattle.rules.specs.Calls.{change, earlyChecks, slotNumberOk, passphraseOk, keyOk, countOk, randomOk, fillerOk, listOk};
+ghost use Rattle.rules.specs.Sectors.{slotCount};
+ghost use Rattle.rules.specs.Contracts.{DoesListed};
 ghost use Rattle.profiles.specs.Suites.{built};
 ghost use Rattle.header.specs.Refusals.{number};
 ghost use Rattle.header.specs.Records.{factsIn, HeaderOk};
+ghost use Rattle.changing.specs.Moves.{Moves};
 
 // Are both slot numbers 1 to 8?
 fn numbers_ok(from: u8, to: u8) -> bool
@@ -56,6 +57,14 @@ fn lengths_ok(image: &[u8], from: u8, to: u8, random: &[u8], filler: &[u8]) -> b
     header::arguments::filler_ok(image, from, filler)
 }
 
+// Is the buffer as long as the second slot's list and then the first's?
+fn lists_ok(image: &[u8], from: u8, to: u8, list: &[u8]) -> bool
+    requires { ⌜ HeaderOk (now image) × (slotNumberOk from ≡ true) × (slotNumberOk to ≡ true) ⌝ }
+    ensures { λ r. ⌜ r ≡ listOk (slotCount (factsIn (now (image .entry))) to + slotCount (factsIn (now (image .entry))) from) (now (list .entry)) ⌝ }
+{
+    list.len() == sectors::list_bytes(image, to) + sectors::list_bytes(image, from)
+}
+
 // The checks of change that derive nothing, on a drive whose header is accepted. They do not ask for the salt.
 fn change_check(
     image: &[u8],
@@ -66,10 +75,11 @@ fn change_check(
     count: u32,
     random: &[u8],
     filler: &[u8],
+    list: &[u8],
 ) -> Refusal
     requires { ⌜ HeaderOk (now image) ⌝ }
-    ensures { λ r. ⌜ ((salt : List ℕ) → number r ≡ first (earlyChecks (factsIn (now (image .entry)))
-        (change from (now (old .entry)) to (slotInput (now (new .entry)) salt count (now (random .entry))) (now (filler .entry))))) ⌝ }
+    ensures { λ r. ⌜ ((salt : List ℕ) → number r ≡ first (earlyChecks (factsIn (now (image .entry))) (change from (now (old .entry)) to
+        (slotInput (now (new .entry)) salt count (now (random .entry))) (now (filler .entry)) (now (list .entry))))) ⌝ }
 {
     if !numbers_ok(from, to) {
         return Refusal::BadSlot;
@@ -88,10 +98,14 @@ fn change_check(
     if !lengths_ok(image, from, to, random, filler) {
         return Refusal::BadLength;
     }
+    if !lists_ok(image, from, to, list) {
+        return Refusal::BadBuffer;
+    }
     Refusal::Accepted
 }
 
-// Adds the key to the second slot, then revokes the first.
+// Adds the key to the second slot, then revokes the first. The list has the sector writes of both, each with the bytes of the image
+// as it then is.
 fn move_key(
     image: &mut [u8],
     from: u8,
@@ -102,20 +116,28 @@ fn move_key(
     count: u32,
     random: &[u8],
     filler: &[u8],
+    list: &mut [u8],
 )
     requires { ⌜ HeaderOk (now image) × (slotNumberOk from ≡ true) × (slotNumberOk to ≡ true) × (keyOk (factsIn (now image)) (now key) ≡ true)
         × (passphraseOk (now new) ≡ true) × (countOk (factsIn (now image)) count ≡ true)
-        × (randomOk (factsIn (now image)) to (now random) ≡ true) × (fillerOk (factsIn (now image)) from (now filler) ≡ true) ⌝ }
-    ensures { λ _. ⌜ now (image .exit) ≡ written (enableWrites (factsIn (now (image .entry))) to (now (key .entry))
-        (slotInput (now (new .entry)) (now (salt .entry)) count (now (random .entry)))
-        ++ disableWrites (factsIn (now (image .entry))) from (now (filler .entry))) (now (image .entry)) ⌝ }
+        × (randomOk (factsIn (now image)) to (now random) ≡ true) × (fillerOk (factsIn (now image)) from (now filler) ≡ true)
+        × (listOk (slotCount (factsIn (now image)) to + slotCount (factsIn (now image)) from) (now list) ≡ true) ⌝ }
+    ensures { λ _. ⌜ Moves (now (image .entry)) from to (now (key .entry)) (slotInput (now (new .entry)) (now (salt .entry)) count (now (random .entry)))
+        (now (filler .entry)) (now (image .exit)) (now (list .exit)) ⌝ }
 {
+    let to_area = sectors::area_of(image, to);
+    let from_area = sectors::area_of(image, from);
+    let half = sectors::list_bytes(image, to);
     slots::enable_slot(image, to, key, new, salt, count, random);
+    sectors::put_list(list, 0, image, to_area);
     slots::disable_slot(image, from, filler);
+    sectors::put_list(list, half, image, from_area);
 }
 
-// Moves the master key from a slot that the old passphrase opens to a disabled slot, under the new passphrase.
-// The contract rules out a change that keeps the first slot, and one that says 17 after it has written.
+// Moves the master key from a slot that the old passphrase opens to a disabled slot, under the new passphrase. The list has the
+// sector writes of the add and then those of the revoke.
+// The contract rules out a change that keeps the first slot, one that says 17 after it has written, and one whose list begins with
+// the revoke's writes.
 pub fn change(
     image: &mut [u8],
     from: u8,
@@ -126,16 +148,17 @@ pub fn change(
     count: u32,
     random: &[u8],
     filler: &[u8],
+    list: &mut [u8],
 ) -> Refusal
-    ensures { λ r. ⌜ Does built (now (image .entry))
-        (change from (now (old .entry)) to (slotInput (now (new .entry)) (now (salt .entry)) count (now (random .entry))) (now (filler .entry)))
-        (number r) (now (image .exit)) ⌝ }
+    ensures { λ r. ⌜ DoesListed built (now (image .entry)) (change from (now (old .entry)) to
+        (slotInput (now (new .entry)) (now (salt .entry)) count (now (random .entry))) (now (filler .entry)) (now (list .entry)))
+        (number r) (now (image .exit)) (now (list .entry)) (now (list .exit)) ⌝ }
 {
     let h = header::check::header_check(image);
     if header::number_of(h) != 0 {
         return h;
     }
-    let r = change_check(image, from, old, to, new, count, random, filler);
+    let r = change_check(image, from, old, to, new, count, random, filler, list);
     if header::number_of(r) != 0 {
         return r;
     }
@@ -145,6 +168,17 @@ pub fn change(
     }
     let l = header::facts::key_bytes(image) as usize;
     let key = t.key;
-    move_key(image, from, to, &key[..l], new, salt, count, random, filler);
+    move_key(
+        image,
+        from,
+        to,
+        &key[..l],
+        new,
+        salt,
+        count,
+        random,
+        filler,
+        list,
+    );
     r
 }

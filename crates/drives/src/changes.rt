@@ -1,11 +1,12 @@
 // Slots revoked, added and changed on the image in memory.
 use crate::damage;
+use crate::listed;
 use crate::openings;
 use crate::report;
 
 fn revokes(image: &mut [u8], drive: u64, what: &[u8], slot: u8, filler: &[u8], number: u8) {
-    let r = revoking::revoke(image, slot, filler);
-    report::slot_line(drive, slot, what, header::number_of(r) == number);
+    let right = listed::revokes(image, slot, filler, number);
+    report::slot_line(drive, slot, what, right);
 }
 
 // Is the area that begins at this sector the filler?
@@ -73,9 +74,8 @@ fn adds(
     random: &[u8],
     number: u8,
 ) {
-    let salt = [0x73u8; 32];
-    let r = adding::add(image, slot, key, b"a new passphrase", &salt, 1000, random);
-    report::slot_line(drive, slot, what, header::number_of(r) == number);
+    let right = listed::adds(image, slot, key, random, number);
+    report::slot_line(drive, slot, what, right);
 }
 
 // Slot 7, whose record lies across a sector's edge, is added; the wrong key has the volume key's length.
@@ -152,19 +152,19 @@ fn changes_seven(
     random: &[u8],
     number: u8,
 ) {
-    let salt = [0x6bu8; 32];
-    let r = changing::change(
-        image,
-        7,
-        old,
-        to,
-        b"a newer passphrase",
-        &salt,
-        1000,
-        random,
-        filler,
-    );
-    report::slot_line(drive, 7, what, header::number_of(r) == number);
+    let right = listed::changes_seven(image, old, to, filler, random, number);
+    report::slot_line(drive, 7, what, right);
+}
+
+// The calls without a list: slots 2 and 7 are as above.
+pub fn without_a_list(image: &mut [u8], drive: u64, key: &[u8], filler: &[u8], random: &[u8]) {
+    let mut none = [0u8; 0];
+    let revoked = listed::revoked(image, 8, filler, &mut none, 20);
+    report::slot_line(drive, 8, b"is not revoked without a list (20)", revoked);
+    let added = listed::added(image, 2, key, random, &mut none, 20);
+    report::slot_line(drive, 2, b"is not added without a list (20)", added);
+    let changed = listed::changed(image, b"a new passphrase", 2, filler, random, &mut none, 20);
+    report::slot_line(drive, 7, b"is not changed without a list (20)", changed);
 }
 
 // Slot 7, the only one left, is changed to slot 3.

@@ -45,11 +45,17 @@ fn write_none(image: &mut [u8]) -> u8 {
 
 fn add_none(image: &mut [u8]) -> u8 {
     let salt = [0u8; 32];
-    header::number_of(adding::add(image, 3, b"", b"", &salt, 0, b""))
+    let mut none = [0u8; 0];
+    header::number_of(adding::add(image, 3, b"", b"", &salt, 0, b"", &mut none))
+}
+
+fn revoke_none(image: &mut [u8]) -> u8 {
+    let mut none = [0u8; 0];
+    header::number_of(revoking::revoke(image, 1, b"", &mut none))
 }
 
 fn changes_refuse(image: &mut [u8], number: u8) -> bool {
-    let revoked = header::number_of(revoking::revoke(image, 1, b""));
+    let revoked = revoke_none(image);
     let read = read_none(image);
     let written = write_none(image);
     let added = add_none(image);

@@ -1,4 +1,4 @@
-// Room for a drive, for filler and for random stripes.
+// Room for a drive, for filler, for random stripes and for lists of sector writes.
 ghost use mathlib.Core.Path.{_≡_};
 ghost use lib.ListN.{length};
 
@@ -47,4 +47,30 @@ pub fn random_512() -> [u8; 255936]
     ensures { λ r. ⌜ 255936 ≡ length r ⌝ }
 {
     [0; 255936]
+}
+
+// Room for the list of a slot of 4,000 stripes.
+pub fn list_256() -> [u8; 130032]
+    ensures { λ r. ⌜ 130032 ≡ length r ⌝ }
+{
+    [0; 130032]
+}
+
+pub fn list_512() -> [u8; 259032]
+    ensures { λ r. ⌜ 259032 ≡ length r ⌝ }
+{
+    [0; 259032]
+}
+
+// Room for the lists of two.
+pub fn lists_256() -> [u8; 260064]
+    ensures { λ r. ⌜ 260064 ≡ length r ⌝ }
+{
+    [0; 260064]
+}
+
+pub fn lists_512() -> [u8; 518064]
+    ensures { λ r. ⌜ 518064 ≡ length r ⌝ }
+{
+    [0; 518064]
 }

@@ -2,6 +2,7 @@
 // tools/make_drives.sh made them. And one that format made before Wish 4, whose payload begins right after its areas.
 mod changes;
 mod damage;
+mod listed;
 mod made;
 mod openings;
 mod payloads;
@@ -55,6 +56,7 @@ fn changed(image: &mut [u8], drive: u64, key: &[u8], wrong: &[u8], filler: &[u8]
 }
 
 fn changed_further(image: &mut [u8], drive: u64, key: &[u8], filler: &[u8], random: &[u8]) {
+    changes::without_a_list(image, drive, key, filler, random);
     changes::leaving_one(image, drive, filler);
     changes::after_leaving(drive, image, key);
     changes::changing_one(image, drive, filler, random);

@@ -14,8 +14,9 @@ use Rattle.rules.specs.Profiles.{Table, aligned, profileAt, known}
 use Rattle.rules.specs.Lawful.{LawfulTable}
 use Rattle.rules.specs.Layout.{areaSectors, roundUp, areaStart, areasEnd, payloadStart}
 use Rattle.rules.specs.Facts.{isEnabled, noSlot, slotOf, matches, candidate}
+use Rattle.rules.specs.Sectors.{areaCount, slotCount}
 use Rattle.rules.specs.Header.{sizeOk}
-use Rattle.rules.specs.Calls.{Call, add, change, revoke, openSlot, read, write, slotNumberOk, passphraseOk, keyOk, countOk, randomOk, fillerOk}
+use Rattle.rules.specs.Calls.{Call, add, change, revoke, openSlot, read, write, slotNumberOk, passphraseOk, keyOk, countOk, randomOk, fillerOk, listOk}
 use Rattle.rules.specs.Calls.{anyEnabled, otherEnabled, rangeChecks, earlyChecks, lateChecks, checks, done, answer, noKey, refused}
 use Rattle.rules.specs.Step.{After, step, run}
 use Rattle.rules.specs.Format.{printable, formatChecks, settleFormat, format}
@@ -32,7 +33,7 @@ use Rattle.ledger.proofs.LedgerLaws.{GoodLedger}
 use Rattle.ledger.proofs.StartLaws.{start-good}
 use Rattle.ledger.proofs.AnswerLaws.{entered, live-candidate, live-answer, written-answer}
 use Rattle.ledger.proofs.General.{demand-3}
-use Rattle.example.specs.Example.{bytes, one, two, three, noOpen, said}
+use Rattle.example.specs.Example.{bytes, one, two, three, slotBuffer, changeBuffer, noOpen, said}
 use Rattle.example.specs.Real.{realKey, realInput, realImage, oldImage, slotOne, slotTwo, slotThree, filler, realCalls, realOpened, realAnswers, realRun, realLedger}
 use Rattle.example.specs.Real.{RealDrive, BothDrives, longKey, EachFormats}
 use Rattle.example.proofs.TypedLaws.{format-typed, calls-typed}
@@ -52,7 +53,7 @@ typed = calls-typed realCalls refl
 
 -- slot 1 added
 abbrev adding : Call
-adding = add 1 realKey slotOne
+adding = add 1 realKey slotOne slotBuffer
 
 -- and opened
 abbrev opening : Call
@@ -68,15 +69,15 @@ reading = read realKey 1 1 (zeros 512)
 
 -- slot 1 revoked
 abbrev revoking : Call
-revoking = revoke 1 filler
+revoking = revoke 1 filler slotBuffer
 
 -- slot 2 added
 abbrev addingTwo : Call
-addingTwo = add 2 realKey slotTwo
+addingTwo = add 2 realKey slotTwo slotBuffer
 
 -- and changed to slot 3
 abbrev changing : Call
-changing = change 2 two 3 slotThree filler
+changing = change 2 two 3 slotThree filler changeBuffer
 
 -- ---- the ledgers
 
@@ -153,19 +154,19 @@ module _ (A : ℕ) (least : 1 ≤ A) (most : A < 2 ^ 32) (image : List ℕ) (yes
     change-passes : candidate (ledgerFacts table l₄) 2 two ≡ realKey → Pass (checks (ledgerFacts table l₄) changing)
 
   checked : Checked
-  unfolding first checks earlyChecks lateChecks rangeChecks slotNumberOk isEnabled slotOf noSlot keyOk passphraseOk countOk randomOk fillerOk anyEnabled otherEnabled
+  unfolding first checks earlyChecks lateChecks rangeChecks slotNumberOk isEnabled slotOf noSlot keyOk passphraseOk countOk randomOk fillerOk listOk areaCount slotCount anyEnabled otherEnabled
       flatten zeros splice profileAt aesXtsRow rows areaSectors roundUp areaStart areasEnd payloadStart ledgerFacts ledgerDrive contentOf stateOf sectorOf driveFacts mapFrom contentFacts
-      setSlot setSectors writings bytes one two three realInput realKey slotOne slotTwo slotThree filler
+      setSlot setSectors writings bytes one two three slotBuffer changeBuffer realInput realKey slotOne slotTwo slotThree filler
   checked =
       record {
-        add-passes = (refl, (refl, (refl, (refl, (refl, (refl, (own-key table l₀, tt)))))));
+        add-passes = (refl, (refl, (refl, (refl, (refl, (refl, (refl, (own-key table l₀, tt))))))));
         write-passes = (refl, (refl, (refl, (own-key table l₁, tt))));
         add-again = refl;
         revoke-only = refl;
-        add-two-passes = (refl, (refl, (refl, (refl, (refl, (refl, (own-key table l₂, tt)))))));
-        revoke-passes = (refl, (refl, (refl, (refl, tt))));
+        add-two-passes = (refl, (refl, (refl, (refl, (refl, (refl, (refl, (own-key table l₂, tt))))))));
+        revoke-passes = (refl, (refl, (refl, (refl, (refl, tt)))));
         open-revoked = refl;
-        change-passes = λ e. (refl, (refl, (refl, (refl, (refl, (ap (matches (ledgerFacts table l₄)) e ∙ own-key table l₄, tt))))));
+        change-passes = λ e. (refl, (refl, (refl, (refl, (refl, (refl, (ap (matches (ledgerFacts table l₄)) e ∙ own-key table l₄, tt)))))));
       }
 
   -- ---- the ledger, call by call

@@ -30,9 +30,9 @@ slotTyped x = eqb (length (x .salt)) 32 && (ltb (x .count) (2 ^ 32) && areBytes 
 
 -- a call's
 abbrev callTyped : Call → Bool
-callTyped (add k key x) = areBytes key && slotTyped x
-callTyped (change k passphrase to x filler) = slotTyped x
-callTyped (revoke k filler) = true
+callTyped (add k key x list) = areBytes key && slotTyped x
+callTyped (change k passphrase to x filler list) = slotTyped x
+callTyped (revoke k filler list) = true
 callTyped (openSlot k passphrase) = true
 callTyped (openAny passphrase) = true
 callTyped (read key u n buffer) = true
@@ -67,11 +67,11 @@ slot-typed x h =
     }
 
 call-typed : (c : Call) → callTyped c ≡ true → Typed c
-call-typed (add k key x) h =
+call-typed (add k key x list) h =
     let q = and-split (areBytes key) (slotTyped x) h in
     (are-bytes key (q .0), slot-typed x (q .1))
-call-typed (change k passphrase to x filler) h = slot-typed x h
-call-typed (revoke k filler) h = tt
+call-typed (change k passphrase to x filler list) h = slot-typed x h
+call-typed (revoke k filler list) h = tt
 call-typed (openSlot k passphrase) h = tt
 call-typed (openAny passphrase) h = tt
 call-typed (read key u n buffer) h = tt

@@ -59,6 +59,14 @@ slotWith passphrase b count random = slotInput passphrase (bytes 32 b) count ran
 unfoldable pub stripe : List ℕ
 stripe = 200 ∷ 17 ∷ 5 ∷ 99 ∷ 0 ∷ 255 ∷ 128 ∷ 64 ∷ 31 ∷ 2 ∷ 77 ∷ 140 ∷ 250 ∷ 8 ∷ 43 ∷ 1 ∷ []
 
+-- the buffer that is lent for the list of an add or a revoke: one sector of the area and two of the header, 516 bytes each
+unfoldable pub slotBuffer : List ℕ
+slotBuffer = bytes 1548 0
+
+-- and for that of a change
+unfoldable pub changeBuffer : List ℕ
+changeBuffer = bytes 3096 0
+
 -- profile 1, two stripes
 unfoldable pub input : FormatInput
 input = record { profile = 1; stripes = 2; key = theKey; salt = bytes 32 3; count = 2; uuid = bytes 36 0x61 }
@@ -106,38 +114,45 @@ unfoldable pub answered : List (Call × Answer)
 answered =
     (openAny one, noOpen 17)  -- no slot is enabled
     ∷ (openAny [], noOpen 14)
-    ∷ (add 9 theKey (slotWith one 1 2 stripe), said 13 [])
-    ∷ (add 1 shortKey (slotWith one 1 2 stripe), said 9 [])
-    ∷ (add 1 theKey (slotWith [] 1 2 stripe), said 14 [])
-    ∷ (add 1 theKey (slotWith one 1 1 stripe), said 10 [])
-    ∷ (add 1 theKey (slotWith one 1 2 []), said 16 [])
-    ∷ (add 1 otherKey (slotWith one 1 2 stripe), said 17 [])
-    ∷ (add 1 theKey (slotWith one 1 2 stripe), said 0 [])  -- slot 1 is live
-    ∷ (add 1 theKey (slotWith one 1 2 stripe), said 15 [])
+    ∷ (add 9 theKey (slotWith one 1 2 stripe) slotBuffer, said 13 [])
+    ∷ (add 1 shortKey (slotWith one 1 2 stripe) slotBuffer, said 9 [])
+    ∷ (add 1 theKey (slotWith [] 1 2 stripe) slotBuffer, said 14 [])
+    ∷ (add 1 theKey (slotWith one 1 1 stripe) slotBuffer, said 10 [])
+    ∷ (add 1 theKey (slotWith one 1 2 []) slotBuffer, said 16 [])
+    ∷ (add 1 theKey (slotWith one 1 2 []) [], said 16 [])  -- 16 before 20
+    ∷ (add 1 theKey (slotWith one 1 2 stripe) [], said 20 [])
+    ∷ (add 1 theKey (slotWith one 1 2 stripe) changeBuffer, said 20 [])
+    ∷ (add 1 otherKey (slotWith one 1 2 stripe) (bytes 1547 0), said 20 [])  -- one byte short, and 20 before 17
+    ∷ (add 1 otherKey (slotWith one 1 2 stripe) slotBuffer, said 17 [])
+    ∷ (add 1 theKey (slotWith one 1 2 stripe) slotBuffer, said 0 [])  -- slot 1 is live
+    ∷ (add 1 theKey (slotWith one 1 2 stripe) slotBuffer, said 15 [])
     ∷ (openSlot 1 one, gaveKey 1)
     ∷ (openSlot 9 one, noOpen 13)
     ∷ (openSlot 1 [], noOpen 14)
     ∷ (openSlot 2 one, noOpen 15)
     ∷ (openSlot 1 wrong, noOpen 17)
     ∷ (openAny one, gaveKey 1)
-    ∷ (revoke 1 (bytes 32 4), said 18 [])  -- the only slot
-    ∷ (change 1 one 0 (slotWith three 2 3 stripe) (bytes 32 4), said 13 [])
-    ∷ (change 9 one 3 (slotWith three 2 3 stripe) (bytes 32 4), said 13 [])
-    ∷ (change 1 one 1 (slotWith three 2 3 stripe) (bytes 32 4), said 15 [])
-    ∷ (change 2 one 3 (slotWith three 2 3 stripe) (bytes 32 4), said 15 [])
-    ∷ (change 1 [] 3 (slotWith three 2 3 stripe) (bytes 32 4), said 14 [])
-    ∷ (change 1 one 3 (slotWith [] 2 3 stripe) (bytes 32 4), said 14 [])
-    ∷ (change 1 one 3 (slotWith three 2 1 stripe) (bytes 32 4), said 10 [])
-    ∷ (change 1 one 3 (slotWith three 2 3 (bytes 32 5)) (bytes 32 4), said 16 [])
-    ∷ (change 1 one 3 (slotWith three 2 3 stripe) (bytes 16 4), said 16 [])
-    ∷ (change 1 wrong 3 (slotWith three 2 3 stripe) (bytes 32 4), said 17 [])
-    ∷ (change 1 one 3 (slotWith three 2 3 stripe) (bytes 32 4), said 0 [])  -- slot 3 in place of slot 1
+    ∷ (revoke 1 (bytes 32 4) slotBuffer, said 18 [])  -- the only slot
+    ∷ (change 1 one 0 (slotWith three 2 3 stripe) (bytes 32 4) changeBuffer, said 13 [])
+    ∷ (change 9 one 3 (slotWith three 2 3 stripe) (bytes 32 4) changeBuffer, said 13 [])
+    ∷ (change 1 one 1 (slotWith three 2 3 stripe) (bytes 32 4) changeBuffer, said 15 [])
+    ∷ (change 2 one 3 (slotWith three 2 3 stripe) (bytes 32 4) changeBuffer, said 15 [])
+    ∷ (change 1 [] 3 (slotWith three 2 3 stripe) (bytes 32 4) changeBuffer, said 14 [])
+    ∷ (change 1 one 3 (slotWith [] 2 3 stripe) (bytes 32 4) changeBuffer, said 14 [])
+    ∷ (change 1 one 3 (slotWith three 2 1 stripe) (bytes 32 4) changeBuffer, said 10 [])
+    ∷ (change 1 one 3 (slotWith three 2 3 (bytes 32 5)) (bytes 32 4) changeBuffer, said 16 [])
+    ∷ (change 1 one 3 (slotWith three 2 3 stripe) (bytes 16 4) changeBuffer, said 16 [])
+    ∷ (change 1 one 3 (slotWith three 2 3 stripe) (bytes 16 4) slotBuffer, said 16 [])  -- 16 before 20
+    ∷ (change 1 one 3 (slotWith three 2 3 stripe) (bytes 32 4) slotBuffer, said 20 [])
+    ∷ (change 1 wrong 3 (slotWith three 2 3 stripe) (bytes 32 4) (bytes 3095 0), said 20 [])  -- one byte short, and 20 before 17
+    ∷ (change 1 wrong 3 (slotWith three 2 3 stripe) (bytes 32 4) changeBuffer, said 17 [])
+    ∷ (change 1 one 3 (slotWith three 2 3 stripe) (bytes 32 4) changeBuffer, said 0 [])  -- slot 3 in place of slot 1
     ∷ (openSlot 1 one, noOpen 15)
     ∷ (openSlot 3 three, gaveKey 3)
     ∷ (openAny one, noOpen 17)
-    ∷ (add 5 twinKey (slotWith two 6 4 stripe), said 0 [])  -- another key with the checksum,
+    ∷ (add 5 twinKey (slotWith two 6 4 stripe) slotBuffer, said 0 [])  -- another key with the checksum,
     ∷ (openSlot 5 two, gaveTwin 5)  -- and the slot holds that key,
-    ∷ (change 5 two 2 (slotWith two 9 2 stripe) (bytes 32 11), said 0 [])  -- and slot 2 after it
+    ∷ (change 5 two 2 (slotWith two 9 2 stripe) (bytes 32 11) changeBuffer, said 0 [])  -- and slot 2 after it
     ∷ (openSlot 2 two, gaveTwin 2)
     ∷ (write shortKey 1 1 (bytes 512 0x2A), said 9 [])
     ∷ (write theKey 1 2 (bytes 1024 0x2A), said 19 [])  -- the payload has two units
@@ -152,11 +167,14 @@ answered =
     ∷ (read theKey 2 1 (bytes 512 0), said 19 [])
     ∷ (read theKey 1 1 (bytes 513 0), said 20 [])
     ∷ (read otherKey 1 1 (bytes 512 0), said 17 [])
-    ∷ (add 8 theKey (slotWith eight 7 2 stripe), said 0 [])  -- slots 2, 3 and 8 are live
-    ∷ (revoke 0 (bytes 32 8), said 13 [])
-    ∷ (revoke 3 (bytes 31 8), said 16 [])
-    ∷ (revoke 3 (bytes 32 8), said 0 [])  -- slots 2 and 8
-    ∷ (revoke 3 (bytes 32 8), said 15 [])
+    ∷ (add 8 theKey (slotWith eight 7 2 stripe) slotBuffer, said 0 [])  -- slots 2, 3 and 8 are live
+    ∷ (revoke 0 (bytes 32 8) slotBuffer, said 13 [])
+    ∷ (revoke 3 (bytes 31 8) slotBuffer, said 16 [])
+    ∷ (revoke 3 (bytes 31 8) (bytes 1547 0), said 16 [])  -- 16 before 20
+    ∷ (revoke 3 (bytes 32 8) (bytes 1547 0), said 20 [])
+    ∷ (revoke 3 (bytes 32 8) [], said 20 [])
+    ∷ (revoke 3 (bytes 32 8) slotBuffer, said 0 [])  -- slots 2 and 8
+    ∷ (revoke 3 (bytes 32 8) slotBuffer, said 15 [])
     ∷ (openAny three, noOpen 17)
     ∷ (openAny eight, gaveKey 8)
     ∷ (openAny two, gaveTwin 2)
@@ -276,13 +294,13 @@ otherImage = zeros (68 * 512) ++ (bytes 512 6 ++ bytes 512 9)
 -- other passphrases, salts and counts in the slots that end empty, no change, another order
 unfoldable pub fewerCalls : List Call
 fewerCalls =
-    add 8 theKey (slotWith eight 7 2 stripe)
-    ∷ add 5 theKey (slotWith one 5 9 stripe)
-    ∷ revoke 5 (bytes 32 11)
-    ∷ add 3 theKey (slotWith three 1 3 stripe)
-    ∷ revoke 3 (bytes 32 8)
-    ∷ add 1 theKey (slotWith wrong 6 2 stripe)
-    ∷ revoke 1 (bytes 32 4)
+    add 8 theKey (slotWith eight 7 2 stripe) slotBuffer
+    ∷ add 5 theKey (slotWith one 5 9 stripe) slotBuffer
+    ∷ revoke 5 (bytes 32 11) slotBuffer
+    ∷ add 3 theKey (slotWith three 1 3 stripe) slotBuffer
+    ∷ revoke 3 (bytes 32 8) slotBuffer
+    ∷ add 1 theKey (slotWith wrong 6 2 stripe) slotBuffer
+    ∷ revoke 1 (bytes 32 4) slotBuffer
     ∷ write theKey 1 1 (bytes 512 0x2A)
-    ∷ add 2 twinKey (slotWith two 9 2 stripe)
+    ∷ add 2 twinKey (slotWith two 9 2 stripe) slotBuffer
     ∷ []

@@ -13,7 +13,7 @@ use Rattle.rules.specs.Format.{FormatInput, payloadStartOf, format}
 use Rattle.profiles.specs.Suites.{alignment, built}
 use Rattle.ledger.specs.Ledger.{Ledger, empty, live, ledgerImage}
 use Rattle.ledger.specs.Demand3.{FormatTyped, AllTyped, entryOf, SomeLive, lastLedger}
-use Rattle.example.specs.Example.{bytes, one, two, three, noOpen, said}
+use Rattle.example.specs.Example.{bytes, one, two, three, slotBuffer, changeBuffer, noOpen, said}
 
 -- ---- arguments
 
@@ -70,16 +70,16 @@ filler = bytes 64 0x0F
 -- the list: seven accepted calls, among them an add beside a live slot, a revoke and a change, and three refused ones
 unfoldable pub realCalls : List Call
 realCalls =
-    add 1 realKey slotOne
+    add 1 realKey slotOne slotBuffer
     ∷ openSlot 1 one
     ∷ write realKey 1 1 (bytes 512 0x2A)
     ∷ read realKey 1 1 (zeros 512)
-    ∷ add 1 realKey slotOne  -- the slot is enabled
-    ∷ revoke 1 filler  -- no other slot is
-    ∷ add 2 realKey slotTwo
-    ∷ revoke 1 filler
+    ∷ add 1 realKey slotOne slotBuffer  -- the slot is enabled
+    ∷ revoke 1 filler slotBuffer  -- no other slot is
+    ∷ add 2 realKey slotTwo slotBuffer
+    ∷ revoke 1 filler slotBuffer
     ∷ openSlot 1 one  -- revoked
-    ∷ change 2 two 3 slotThree filler
+    ∷ change 2 two 3 slotThree filler changeBuffer
     ∷ []
 
 -- slot k opened: the 32 key bytes, and zeros to 64

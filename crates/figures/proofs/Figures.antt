@@ -27,6 +27,7 @@ use Rattle.ledger.proofs.LayoutLaws.{end-is, end-most}
 use Rattle.bridge.specs.Screened.{liveBit, ledgerSlots}
 use Rattle.figures.specs.Figures.{Plain, pieceLengths, Figures}
 use Rattle.figures.proofs.ScreenFigures.{after-2, fresh-slots, fresh-details, added-slots}
+use Rattle.figures.proofs.ListFigures.{entries, list-bytes, add-sectors, change-sectors}
 
 -- what is left to check of plain arguments, where the image has n bytes
 abbrev lengthChecks : ℕ → List Check
@@ -152,9 +153,17 @@ figures =
       one-stripe = λ k. one-stripe _;
       one-merged = λ k. one-merged _;
       fresh-slots = fresh-slots;
-      added-1-slots = λ a image f key x. added-slots a image f 1 key x;
-      added-8-slots = λ a image f key x. added-slots a image f 8 key x;
+      added-1-slots = λ a image f key x list. added-slots a image f 1 key x list;
+      added-8-slots = λ a image f key x list. added-slots a image f 8 key x list;
       fresh-details = fresh-details;
       slots-after-2 = after-2 enabledBit 0;
       details-after-2 = after-2 detailsOf noDetails;
+      add-1-sectors = λ a image cs h key x list. add-sectors a image cs h 1 (omega arith) (omega arith) key x list;
+      add-8-sectors = λ a image cs h key x list. add-sectors a image cs h 8 (omega arith) (omega arith) key x list;
+      change-sectors = change-sectors;
+      entries-n-1 = λ f k l n. entries f k 1 l n;
+      entries-n-16 = λ f k l n. entries f k 16 l n;
+      entries-n-17 = λ f k l n. entries f k 17 l n;
+      entries-n-4000 = λ f k l n. entries f k 4000 l n;
+      bytes-n-4000 = list-bytes;
     }

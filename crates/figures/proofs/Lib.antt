@@ -1,2 +1,3 @@
+pub mod ListFigures
 pub mod Figures
 pub mod ScreenFigures

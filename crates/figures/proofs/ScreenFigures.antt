@@ -58,18 +58,18 @@ module _ (a : FormatInput) (image : List ℕ) (fresh : Fresh a image) where
   fresh-details p n = screens-follow built built-lawful a (fresh .typed) image (fresh .accepted) [] tt .details-are ∙ rw (p, n)
 
   -- after an add that was accepted
-  module _ (k : ℕ) (key : List ℕ) (x : SlotInput) (typed : Typed (add k key x)) (yes′ : added a image k key x .said .code ≡ 0) where
-    entered : enter built (startLedger built a image) (add k key x) .said .code ≡ 0
+  module _ (k : ℕ) (key : List ℕ) (x : SlotInput) (list : List ℕ) (typed : Typed (add k key x list)) (yes′ : added a image k key x list .said .code ≡ 0) where
+    entered : enter built (startLedger built a image) (add k key x list) .said .code ≡ 0
     unfolding run enterAll
     entered =
-        let d = demand-3-built a (fresh .typed) image (fresh .accepted) (add k key x ∷ []) (typed, tt) .answers-are in
-        let nothing = added a image k key x .said in
+        let d = demand-3-built a (fresh .typed) image (fresh .accepted) (add k key x list ∷ []) (typed, tt) .answers-are in
+        let nothing = added a image k key x list .said in
         sym (ap (λ (l : List Answer). getD l 0 nothing .code) d) ∙ yes′
 
-    last-is : lastLedger built a image (add k key x ∷ []) ≡ setSlot (startLedger built a image) k (live key x)
+    last-is : lastLedger built a image (add k key x list ∷ []) ≡ setSlot (startLedger built a image) k (live key x)
     unfolding enterAll enter ledgerAfter
-    last-is = settled (ledgerFacts built (startLedger built a image)) (add k key x) (startLedger built a image) _ _ refl entered
+    last-is = settled (ledgerFacts built (startLedger built a image)) (add k key x list) (startLedger built a image) _ _ refl entered
 
-    pub added-slots : slotScreen built (added a image k key x .image) ≡ ledgerSlots (setSlot (startLedger built a image) k (live key x))
+    pub added-slots : slotScreen built (added a image k key x list .image) ≡ ledgerSlots (setSlot (startLedger built a image) k (live key x))
     unfolding run
-    added-slots = screens-follow built built-lawful a (fresh .typed) image (fresh .accepted) (add k key x ∷ []) (typed, tt) .slots-are ∙ ap ledgerSlots last-is
+    added-slots = screens-follow built built-lawful a (fresh .typed) image (fresh .accepted) (add k key x list ∷ []) (typed, tt) .slots-are ∙ ap ledgerSlots last-is

@@ -1,8 +1,8 @@
--- The figures of 01 ("Figures to check") and of Wishes 1, 2 and 4 of 02, as statements over the definitions that the calls' contracts cite.
+-- The figures of 01 ("Figures to check") and of Wishes 1, 2, 4 and 5 of 02, as statements over the definitions that the calls' contracts cite.
 use mathlib.Core.Path.{_≡_}
 use mathlib.Core.List.{List, [], _∷_, _++_, map}
 use mathlib.Core.Bool.{true, false, _||_}
-use Prim.Native.Nat.{ℕ, _≤_}
+use Prim.Native.Nat.{ℕ, _+_, _*_, _≤_}
 use lib.Dec.{eqb}
 use lib.ListN.{length, replicate}
 use Rattle.octets.specs.Octets.{zeros, same}
@@ -13,15 +13,17 @@ use Rattle.gf256.specs.Field.{xtime, sub}
 use Rattle.suite.specs.Split.{split, merge}
 use Rattle.xts.specs.Xts.{double}
 use Rattle.rules.specs.Layout.{areaSectors, areaStart, areasEnd, payloadStart, slots}
-use Rattle.rules.specs.Facts.{SlotInput}
+use Rattle.rules.specs.Facts.{Facts, SlotInput, slotOf, factsOf}
 use Rattle.rules.specs.Header.{magic, sizeOk}
-use Rattle.rules.specs.Calls.{add}
+use Rattle.rules.specs.Sectors.{encoded, areaCount, slotList}
+use Rattle.rules.specs.Calls.{Call, add, change}
 use Rattle.rules.specs.Step.{After, step}
+use Rattle.rules.specs.Lists.{listOf}
 use Rattle.rules.specs.Format.{FormatInput, printable, format}
 use Rattle.profiles.specs.Rows.{hashOf}
 use Rattle.profiles.specs.Suites.{suiteOf, alignment, built}
 use Rattle.screens.specs.Screens.{slotScreen, detailScreen}
-use Rattle.ledger.specs.Demand3.{FormatTyped, Typed}
+use Rattle.ledger.specs.Demand3.{FormatTyped, Typed, AllTyped, lastImage}
 
 -- format's arguments for profile 1 and any stripes that give payload 2,048, with nothing wrong but maybe the image's length
 pub record Plain (a : FormatInput) : Type 0 where
@@ -40,8 +42,19 @@ pub record Fresh (a : FormatInput) (image : List ℕ) : Type 0 where
   pub accepted : format built a image .code ≡ 0
 
 -- what an add on the drive that it left answers and leaves
-abbrev pub added : FormatInput → List ℕ → ℕ → List ℕ → SlotInput → After
-added a image k key x = step built (format built a image .image) (add k key x)
+abbrev pub added : FormatInput → List ℕ → ℕ → List ℕ → SlotInput → List ℕ → After
+added a image k key x list = step built (format built a image .image) (add k key x list)
+
+-- a drive of L 32 with one stripe, after an accepted format and any list of calls
+pub record OneStripe (a : FormatInput) (image : List ℕ) (cs : List Call) : Type 0 where
+  pub fresh : Fresh a image
+  pub profile-is : a .profile ≡ 1
+  pub stripes-is : a .stripes ≡ 1
+  pub typed : AllTyped cs
+
+-- the sectors that the list of a call on it writes, in their order
+abbrev pub listNumbers : FormatInput → List ℕ → List Call → Call → List ℕ
+listNumbers a image cs c = let z = lastImage built a image cs in map (λ w. w .0) (listOf (factsOf built z) c z)
 
 -- how long the pieces are into which H cuts x, with the hash of profile k
 abbrev pub pieceLengths : ℕ → List ℕ → List ℕ
@@ -102,10 +115,10 @@ pub record Figures : Type 0 where
   -- 02, "Wish 2": the first screen of a fresh drive, and after one add
   pub fresh-slots : (a : FormatInput) (image : List ℕ) → Fresh a image
       → slotScreen built (format built a image .image) ≡ record { code = 0; entries = 0 ∷ 0 ∷ 0 ∷ 0 ∷ 0 ∷ 0 ∷ 0 ∷ 0 ∷ [] }
-  pub added-1-slots : (a : FormatInput) (image : List ℕ) → Fresh a image → (key : List ℕ) (x : SlotInput) → Typed (add 1 key x) → added a image 1 key x .said .code ≡ 0
-      → slotScreen built (added a image 1 key x .image) ≡ record { code = 0; entries = 1 ∷ 0 ∷ 0 ∷ 0 ∷ 0 ∷ 0 ∷ 0 ∷ 0 ∷ [] }
-  pub added-8-slots : (a : FormatInput) (image : List ℕ) → Fresh a image → (key : List ℕ) (x : SlotInput) → Typed (add 8 key x) → added a image 8 key x .said .code ≡ 0
-      → slotScreen built (added a image 8 key x .image) ≡ record { code = 0; entries = 0 ∷ 0 ∷ 0 ∷ 0 ∷ 0 ∷ 0 ∷ 0 ∷ 1 ∷ [] }
+  pub added-1-slots : (a : FormatInput) (image : List ℕ) → Fresh a image → (key : List ℕ) (x : SlotInput) (list : List ℕ) → Typed (add 1 key x list)
+      → added a image 1 key x list .said .code ≡ 0 → slotScreen built (added a image 1 key x list .image) ≡ record { code = 0; entries = 1 ∷ 0 ∷ 0 ∷ 0 ∷ 0 ∷ 0 ∷ 0 ∷ 0 ∷ [] }
+  pub added-8-slots : (a : FormatInput) (image : List ℕ) → Fresh a image → (key : List ℕ) (x : SlotInput) (list : List ℕ) → Typed (add 8 key x list)
+      → added a image 8 key x list .said .code ≡ 0 → slotScreen built (added a image 8 key x list .image) ≡ record { code = 0; entries = 0 ∷ 0 ∷ 0 ∷ 0 ∷ 0 ∷ 0 ∷ 0 ∷ 1 ∷ [] }
   -- the second screen of a fresh drive of L 32, n 4,000
   pub fresh-details : (a : FormatInput) (image : List ℕ) → Fresh a image → a .profile ≡ 1 → a .stripes ≡ 4000
       → detailScreen built (format built a image .image)
@@ -118,3 +131,17 @@ pub record Figures : Type 0 where
       → slotScreen built image ≡ record { code = 2; entries = 0 ∷ 0 ∷ 0 ∷ 0 ∷ 0 ∷ 0 ∷ 0 ∷ 0 ∷ [] }
   pub details-after-2 : (image : List ℕ) → sizeOk image ≡ true → same (part image 0 6) magic ≡ false
       → detailScreen built image ≡ record { code = 2; entries = replicate 8 (record { enabled = 0; count = 0; start = 0; stripes = 0 }) }
+  -- 02, "Wish 5", L 32, n 1: the sectors of an add's list, in slot 1 and in slot 8, and of a change's, from 8 to 7
+  pub add-1-sectors : (a : FormatInput) (image : List ℕ) (cs : List Call) → OneStripe a image cs → (key : List ℕ) (x : SlotInput) (list : List ℕ)
+      → listNumbers a image cs (add 1 key x list) ≡ 8 ∷ 1 ∷ 0 ∷ []
+  pub add-8-sectors : (a : FormatInput) (image : List ℕ) (cs : List Call) → OneStripe a image cs → (key : List ℕ) (x : SlotInput) (list : List ℕ)
+      → listNumbers a image cs (add 8 key x list) ≡ 64 ∷ 1 ∷ 0 ∷ []
+  pub change-sectors : (a : FormatInput) (image : List ℕ) (cs : List Call) → OneStripe a image cs → (passphrase : List ℕ) (x : SlotInput) (filler list : List ℕ)
+      → listNumbers a image cs (change 8 passphrase 7 x filler list) ≡ 56 ∷ 1 ∷ 0 ∷ 64 ∷ 1 ∷ 0 ∷ []
+  -- L 32: n 1, 16, 17 and 4,000 give 1, 1, 2 and 250 entries of the area, and 4,000 a list of 130,032 bytes, of an image that has the area
+  pub entries-n-1 : (f : Facts) (k : ℕ) → f .profile .keyBytes ≡ 32 → slotOf f k .stripes ≡ 1 → areaCount f k ≡ 1
+  pub entries-n-16 : (f : Facts) (k : ℕ) → f .profile .keyBytes ≡ 32 → slotOf f k .stripes ≡ 16 → areaCount f k ≡ 1
+  pub entries-n-17 : (f : Facts) (k : ℕ) → f .profile .keyBytes ≡ 32 → slotOf f k .stripes ≡ 17 → areaCount f k ≡ 2
+  pub entries-n-4000 : (f : Facts) (k : ℕ) → f .profile .keyBytes ≡ 32 → slotOf f k .stripes ≡ 4000 → areaCount f k ≡ 250
+  pub bytes-n-4000 : (f : Facts) (k : ℕ) → f .profile .keyBytes ≡ 32 → slotOf f k .stripes ≡ 4000
+      → (image : List ℕ) → 1024 ≤ length image → (slotOf f k .start + 250) * 512 ≤ length image → length (encoded (slotList f k image)) ≡ 130032

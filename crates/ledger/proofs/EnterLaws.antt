@@ -30,7 +30,8 @@ use Rattle.ledger.specs.Ledger.{ledgerImage, ledgerFacts, setSlot, ledge
 use Rattle.ledger.specs.Demand3.{SlotTyped, Typed, AllTyped, noEntry, entryOf}
 use Rattle.ledger.proofs.PartsLaws.{getD-mapFrom}
 use Rattle.ledger.proofs.AreaLaws.{str-keyMaterial, str-candidateOf}
-use Rattle.ledger.proofs.LedgerLaws.{Matches, GoodLive, GoodSlot, GoodLedger, contentIn, facts-are, header-accepted, entry-good}
+use Rattle.ledger.proofs.ReadingLaws as reading
+use Rattle.ledger.proofs.LedgerLaws.{Matches, GoodLive, GoodSlot, GoodLedger, contentIn, drive-good, facts-are, header-accepted, entry-good}
 use Rattle.ledger.proofs.LedgerLaws.{length-payload, slot-good, slot-written, writing-good, payload-written}
 
 -- ---- the facts of a good ledger
@@ -60,13 +61,13 @@ module _ (table : Table) (l : Ledger) (g : GoodLedger table l) where
       getD-mapFrom (contentFacts n L) 0 (map c (l .slotEntries)) (k - 1) (c noEntry) noSlot (omega (arith, g .eight))
       ∙ rw (zero-add, List·getD-map c (l .slotEntries) (k - 1) noEntry)
 
-  start-at : (k : ℕ) → 1 ≤ k → k ≤ 8 → slotOf f k .start ≡ areaStart n L (k - 1)
-  unfolding contentFacts
-  start-at k h i = ap (λ s. s .start) (slot-is k h i)
+  pub start-at : (k : ℕ) → 1 ≤ k → k ≤ 8 → slotOf (ledgerFacts table l) k .start ≡ areaStart (l .input .stripes) (keyBytesOf table (l .input)) (k - 1)
+  unfolding ledgerFacts ledgerDrive
+  start-at k h i = reading.start-at table (ledgerDrive table l) (drive-good table l g) k h i
 
-  stripes-at : (k : ℕ) → 1 ≤ k → k ≤ 8 → slotOf f k .stripes ≡ n
-  unfolding contentFacts
-  stripes-at k h i = ap (λ s. s .stripes) (slot-is k h i)
+  pub stripes-at : (k : ℕ) → 1 ≤ k → k ≤ 8 → slotOf (ledgerFacts table l) k .stripes ≡ l .input .stripes
+  unfolding ledgerFacts ledgerDrive
+  stripes-at k h i = reading.stripes-at table (ledgerDrive table l) (drive-good table l g) k h i
 
   matches-key : (key : List ℕ) → matches f key ≡ true → Matches table (l .input) key
   unfolding matches ledgerFacts driveFacts ledgerDrive
@@ -138,11 +139,11 @@ record Follows (table : Table) (f : Facts) (c : Call) (image : List ℕ) (l : Le
   good : GoodLedger table (ledgerAfter f c l)
 
 module _ (table : Table) (l : Ledger) (g : GoodLedger table l) where
-  change-follows : (k : ℕ) (passphrase : List ℕ) (to : ℕ) (x : SlotInput) (filler : List ℕ) → 1 ≤ to → to ≤ 8 → 1 ≤ k → k ≤ 8
+  change-follows : (k : ℕ) (passphrase : List ℕ) (to : ℕ) (x : SlotInput) (filler list : List ℕ) → 1 ≤ to → to ≤ 8 → 1 ≤ k → k ≤ 8
       → GoodLive table (l .input) (candidate (ledgerFacts table l) k passphrase) x → GoodSlot table (l .input) (empty filler)
-      → Follows table (ledgerFacts table l) (change k passphrase to x filler) (ledgerImage table l) l
+      → Follows table (ledgerFacts table l) (change k passphrase to x filler list) (ledgerImage table l) l
   unfolding writes ledgerAfter setSlot
-  change-follows k passphrase to x filler a b h i new old =
+  change-follows k passphrase to x filler list a b h i new old =
       let f = ledgerFacts table l in
       let key = candidate f k passphrase in
       let gm = slot-good table l g to (live key x) new in
@@ -155,12 +156,12 @@ module _ (table : Table) (l : Ledger) (g : GoodLedger table l) where
 
   follows : (c : Call) → Typed c → Pass (checks (ledgerFacts table l) c) → Follows table (ledgerFacts table l) c (ledgerImage table l) l
   unfolding checks earlyChecks lateChecks rangeChecks writes written ledgerAfter ledgerFacts driveFacts ledgerDrive keyOk
-  follows (add k key x) t c =
+  follows (add k key x list) t c =
       let r = number-in k (c .0) in
       let s : Str (keyBytesOf table (l .input)) key = record { len = eqb-true _ _ (c .1 .1 .0); byte = t .0 } in
-      let ok = live-good table l g k key x (r .0) (r .1) (t .1) s (c .1 .1 .1 .0) (c .1 .1 .1 .1 .0) (c .1 .1 .1 .1 .1 .0) (c .1 .1 .1 .1 .1 .1 .0) in
+      let ok = live-good table l g k key x (r .0) (r .1) (t .1) s (c .1 .1 .1 .0) (c .1 .1 .1 .1 .0) (c .1 .1 .1 .1 .1 .0) (c .1 .1 .1 .1 .1 .1 .1 .0) in
       record { image-is = enabled-is table l g k (r .0) (r .1) key x ok; good = slot-good table l g k (live key x) ok }
-  follows (change k passphrase to x filler) t c =
+  follows (change k passphrase to x filler list) t c =
       let f = ledgerFacts table l in
       let numbers = and-split (slotNumberOk k) (slotNumberOk to) (c .0) in
       let r = number-in k (numbers .0) in
@@ -169,9 +170,9 @@ module _ (table : Table) (l : Ledger) (g : GoodLedger table l) where
       let passphrases = and-split (passphraseOk passphrase) (passphraseOk (x .passphrase)) (c .1 .1 .0) in
       let lengths = and-split (randomOk f to (x .random)) (fillerOk f k filler) (c .1 .1 .1 .1 .0) in
       let s = str-candidate table l g k passphrase (r .0) (r .1) (states .0) in
-      let new = live-good table l g to (candidate f k passphrase) x (v .0) (v .1) t s (passphrases .1) (c .1 .1 .1 .0) (lengths .0) (c .1 .1 .1 .1 .1 .0) in
-      change-follows k passphrase to x filler (v .0) (v .1) (r .0) (r .1) new (empty-good table l g k filler (r .0) (r .1) (lengths .1))
-  follows (revoke k filler) t c =
+      let new = live-good table l g to (candidate f k passphrase) x (v .0) (v .1) t s (passphrases .1) (c .1 .1 .1 .0) (lengths .0) (c .1 .1 .1 .1 .1 .1 .0) in
+      change-follows k passphrase to x filler list (v .0) (v .1) (r .0) (r .1) new (empty-good table l g k filler (r .0) (r .1) (lengths .1))
+  follows (revoke k filler list) t c =
       let r = number-in k (c .0) in
       let ok = empty-good table l g k filler (r .0) (r .1) (c .1 .1 .1 .0) in
       record { image-is = disabled-is table l g l g refl k (r .0) (r .1) filler ok; good = slot-good table l g k (empty filler) ok }

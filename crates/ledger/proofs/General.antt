@@ -22,9 +22,9 @@ use Rattle.ledger.proofs.LiveLaws.{add-stays-live}
 
 after-input : (f : Facts) (c : Call) (l : Ledger) → ledgerAfter f c l .input ≡ l .input
 unfolding ledgerAfter setSlot setSectors
-after-input f (add k key x) l = refl
-after-input f (change k passphrase to x filler) l = refl
-after-input f (revoke k filler) l = refl
+after-input f (add k key x list) l = refl
+after-input f (change k passphrase to x filler list) l = refl
+after-input f (revoke k filler list) l = refl
 after-input f (openSlot k passphrase) l = refl
 after-input f (openAny passphrase) l = refl
 after-input f (read key u n buffer) l = refl
@@ -35,7 +35,7 @@ unfolding settleEntry
 settled-input f c l r true = after-input f c l
 settled-input f c l r false = refl
 
-input-stays : (table : Table) (l : Ledger) (cs : List Call) → enterAll table l cs .ledger .input ≡ l .input
+pub input-stays : (table : Table) (l : Ledger) (cs : List Call) → enterAll table l cs .ledger .input ≡ l .input
 unfolding enterAll enter
 input-stays table l [] = refl
 input-stays table l (c ∷ cs) = input-stays table (enter table l c .ledger) cs ∙ settled-input (ledgerFacts table l) c l _ _

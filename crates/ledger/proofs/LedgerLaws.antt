@@ -75,7 +75,7 @@ pub record GoodLedger (table : Table) (l : Ledger) : Type 0 where
 abbrev pub contentIn : Table → FormatInput → SlotEntry → SlotContent
 contentIn table a = contentOf (suiteFor table a) (keyBytesOf table a) (a .stripes)
 
-content-good : (table : Table) (a : FormatInput) (g : GoodInput table a) (s : SlotEntry) → GoodSlot table a s
+pub content-good : (table : Table) (a : FormatInput) (g : GoodInput table a) (s : SlotEntry) → GoodSlot table a s
     → GoodContent (a .stripes) (keyBytesOf table a) (contentIn table a s)
 unfolding contentOf stateOf countOf saltOf areaOf
 content-good table a g (empty area) h =
@@ -134,7 +134,7 @@ module _ (table : Table) (l : Ledger) (g : GoodLedger table l) where
 
 -- ---- a slot
 
-map-set : {A B : Type 0} (f : A → B) (xs : List A) (k : ℕ) (y : A) → set (map f xs) k (f y) ≡ map f (set xs k y)
+pub map-set : {A B : Type 0} (f : A → B) (xs : List A) (k : ℕ) (y : A) → set (map f xs) k (f y) ≡ map f (set xs k y)
 map-set f [] k y = refl
 map-set f (x ∷ xs) zero y = refl
 map-set f (x ∷ xs) (suc k) y = ap (λ r. f x ∷ r) (map-set f xs k y)

@@ -91,8 +91,8 @@ module _ (table : Table) (l : Ledger) (g : GoodLedger table l) where
   -- an accepted call leaves a live slot
   stays-live : (c : Call) → Pass (checks (ledgerFacts table l) c) → SomeLive l → SomeLive (ledgerAfter (ledgerFacts table l) c l)
   unfolding checks earlyChecks lateChecks ledgerAfter ledgerFacts driveFacts ledgerDrive setSectors
-  stays-live (add k key x) c a = let r = number-in k (c .0) in set-live k (r .0) (r .1) key x
-  stays-live (change k passphrase to x filler) c a =
+  stays-live (add k key x list) c a = let r = number-in k (c .0) in set-live k (r .0) (r .1) key x
+  stays-live (change k passphrase to x filler list) c a =
       let f = ledgerFacts table l in
       let numbers = and-split (slotNumberOk k) (slotNumberOk to) (c .0) in
       let r = number-in k (numbers .0) in
@@ -105,7 +105,7 @@ module _ (table : Table) (l : Ledger) (g : GoodLedger table l) where
       let off : isEnabled (slotOf f to) ≡ false = not-true _ (states .1) in
       no (sym off ∙ on) in
       set-other (setSlot l to new) (to - 1) k (empty filler) (omega arith) d (set-same l to (omega (arith, g .eight)) _ x)
-  stays-live (revoke k filler) c a =
+  stays-live (revoke k filler list) c a =
       let r = other-some (suiteFor table (l .input)) (keyBytesOf table (l .input)) (l .input .stripes) 0 (l .slotEntries) (k - 1) (c .1 .1 .0) in
       set-other l (r .0) k (empty filler) (omega (arith, g .eight)) (r .2) (r .3)
   stays-live (openSlot k passphrase) c a = a
@@ -117,9 +117,9 @@ module _ (table : Table) (l : Ledger) (g : GoodLedger table l) where
   -- an accepted add makes one
   add-live : (c : Call) → isAdd c ≡ true → Pass (checks (ledgerFacts table l) c) → SomeLive (ledgerAfter (ledgerFacts table l) c l)
   unfolding isAdd checks earlyChecks lateChecks ledgerAfter
-  add-live (add k key x) e c = let r = number-in k (c .0) in set-live k (r .0) (r .1) key x
-  add-live (change k passphrase to x filler) e c = no e
-  add-live (revoke k filler) e c = no e
+  add-live (add k key x list) e c = let r = number-in k (c .0) in set-live k (r .0) (r .1) key x
+  add-live (change k passphrase to x filler list) e c = no e
+  add-live (revoke k filler list) e c = no e
   add-live (openSlot k passphrase) e c = no e
   add-live (openAny passphrase) e c = no e
   add-live (read key u n buffer) e c = no e

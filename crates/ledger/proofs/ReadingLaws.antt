@@ -2,7 +2,7 @@
 use mathlib.Core.Path.{_≡_, refl, sym, ap, ap₂, _∙_}
 use mathlib.Core.List.{List, [], _∷_, map}
 use mathlib.Core.Bool.{Bool, true}
-use Prim.Native.Nat.{ℕ, suc, _+_, _*_, _%_, _≤_, _<_}
+use Prim.Native.Nat.{ℕ, suc, _+_, _-_, _*_, _%_, _≤_, _<_}
 use native.Mathlib.Nat.{zero-add, add-zero}
 use native.Mathlib.Omega.{arith}
 use lib.Dec.{ltb}
@@ -14,12 +14,12 @@ use Rattle.octets.proofs.OctetsLaws.{same-refl}
 use Rattle.rules.specs.Checks.{every}
 use Rattle.rules.specs.Profiles.{Table, profileAt}
 use Rattle.rules.specs.Layout.{areaStart, areasEnd, slots}
-use Rattle.rules.specs.Facts.{SlotFacts, slotAt, profileIn, factsOf}
+use Rattle.rules.specs.Facts.{SlotFacts, slotOf, noSlot, slotAt, profileIn, factsOf}
 use Rattle.rules.specs.Header.{magic, version, sizeOk, recordOk, slotOk, areaEnd, inside, apart, allApart, soundChecks, headerChecks}
 use Rattle.rules.specs.Format.{keyBytesOf, payloadStartOf, headFields}
 use Rattle.rules.proofs.ChecksLaws.{Pass}
 use Rattle.ledger.specs.Drive.{SlotContent, Drive, mapFrom, recordOf, driveImage, contentFacts, driveFacts}
-use Rattle.ledger.proofs.PartsLaws.{upto, tab}
+use Rattle.ledger.proofs.PartsLaws.{getD-mapFrom, upto, tab}
 use Rattle.ledger.proofs.LayoutLaws.{start-is, bytes-fit, sectors-fit, end-is, start-most, area-ends}
 use Rattle.ledger.proofs.DriveLaws.{GoodDrive, GoodContent, be32-field, recordFields, record-field, noContent, contentAt}
 use Rattle.ledger.proofs.DriveLaws.{content-ok, header-field, record-at, area-at, payload-at, length-driveImage}
@@ -170,3 +170,20 @@ module _ (table : Table) (d : Drive) (g : GoodDrive table d) where
           ),
         ),
       )
+
+-- ---- its slots
+
+module _ (table : Table) (d : Drive) (g : GoodDrive table d) where
+  pub slot-at : (j : ℕ) → 1 ≤ j → j ≤ 8 → slotOf (driveFacts table d) j ≡ contentFacts (d .input .stripes) (keyBytesOf table (d .input)) (j - 1) (contentAt d (j - 1))
+  unfolding slotOf driveFacts
+  slot-at j h i =
+      getD-mapFrom (contentFacts (d .input .stripes) (keyBytesOf table (d .input))) 0 (d .contents) (j - 1) noContent noSlot (omega (arith, g .eight))
+      ∙ ap (λ x. contentFacts (d .input .stripes) (keyBytesOf table (d .input)) x (contentAt d (j - 1))) (zero-add (j - 1))
+
+  pub start-at : (j : ℕ) → 1 ≤ j → j ≤ 8 → slotOf (driveFacts table d) j .start ≡ areaStart (d .input .stripes) (keyBytesOf table (d .input)) (j - 1)
+  unfolding contentFacts
+  start-at j h i = ap (λ s. s .start) (slot-at j h i)
+
+  pub stripes-at : (j : ℕ) → 1 ≤ j → j ≤ 8 → slotOf (driveFacts table d) j .stripes ≡ d .input .stripes
+  unfolding contentFacts
+  stripes-at j h i = ap (λ s. s .stripes) (slot-at j h i)

@@ -33,7 +33,7 @@ setBytes d xs = record { input = d .input; contents = d .contents; sectors = xs 
 
 -- ---- a slot
 
-good-content : (table : Table) (d : Drive) (g : GoodDrive table d) (k : ℕ) (c : SlotContent) → GoodContent (d .input .stripes) (keyBytesOf table (d .input)) c
+pub good-content : (table : Table) (d : Drive) (g : GoodDrive table d) (k : ℕ) (c : SlotContent) → GoodContent (d .input .stripes) (keyBytesOf table (d .input)) c
     → GoodDrive table (setContent d k c)
 unfolding setContent
 good-content table d g k c h =

@@ -28,9 +28,9 @@ pub record SlotTyped (x : SlotInput) : Type 0 where
 
 -- a call's
 abbrev pub Typed : Call → Type 0
-Typed (add k key x) = Bytes key × SlotTyped x
-Typed (change k passphrase to x filler) = SlotTyped x
-Typed (revoke k filler) = Unit {0}
+Typed (add k key x list) = Bytes key × SlotTyped x
+Typed (change k passphrase to x filler list) = SlotTyped x
+Typed (revoke k filler list) = Unit {0}
 Typed (openSlot k passphrase) = Unit {0}
 Typed (openAny passphrase) = Unit {0}
 Typed (read key u n buffer) = Unit {0}
@@ -61,9 +61,9 @@ sectorEntryOf l u = getD (l .sectorEntries) u noSector
 
 -- the call is an add
 unfoldable pub isAdd : Call → Bool
-isAdd (add k key x) = true
-isAdd (change k passphrase to x filler) = false
-isAdd (revoke k filler) = false
+isAdd (add k key x list) = true
+isAdd (change k passphrase to x filler list) = false
+isAdd (revoke k filler list) = false
 isAdd (openSlot k passphrase) = false
 isAdd (openAny passphrase) = false
 isAdd (read key u n buffer) = false

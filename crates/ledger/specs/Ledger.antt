@@ -95,9 +95,9 @@ writings key (suc n) x = lastWriting key (take 512 x) ∷ writings key n (drop 5
 -- write replaces sectors, open and read alter nothing"
 -- f are the facts of the ledger before the call
 unfoldable pub ledgerAfter : Facts → Call → Ledger → Ledger
-ledgerAfter f (add k key x) l = setSlot l k (live key x)
-ledgerAfter f (change k passphrase to x filler) l = setSlot (setSlot l to (live (candidate f k passphrase) x)) k (empty filler)
-ledgerAfter f (revoke k filler) l = setSlot l k (empty filler)
+ledgerAfter f (add k key x list) l = setSlot l k (live key x)
+ledgerAfter f (change k passphrase to x filler list) l = setSlot (setSlot l to (live (candidate f k passphrase) x)) k (empty filler)
+ledgerAfter f (revoke k filler list) l = setSlot l k (empty filler)
 ledgerAfter f (openSlot k passphrase) l = l
 ledgerAfter f (openAny passphrase) l = l
 ledgerAfter f (read key u n buffer) l = l

@@ -5,7 +5,7 @@ ghost use Prim.Native.Nat.{_-_, _≤_, _<_};
 ghost use lib.ListN.{length, take, drop};
 ghost use Rattle.rules.specs.Checks.{first};
 ghost use Rattle.rules.specs.Calls.{revoke, earlyChecks, anyEnabled, otherEnabled};
-ghost use Rattle.rules.specs.Contracts.{Does};
+ghost use Rattle.rules.specs.Contracts.{DoesListed};
 ghost use Rattle.profiles.specs.Suites.{built};
 ghost use Rattle.header.specs.Refusals.{number};
 ghost use Rattle.header.specs.Records.{factsIn, HeaderOk};
@@ -37,9 +37,9 @@ fn other_enabled(image: &[u8], k: usize) -> bool
 }
 
 // The checks of revoke, which derive nothing, on a drive whose header is accepted.
-fn revoke_check(image: &[u8], slot: u8, filler: &[u8]) -> Refusal
+fn revoke_check(image: &[u8], slot: u8, filler: &[u8], list: &[u8]) -> Refusal
     requires { ⌜ HeaderOk (now image) ⌝ }
-    ensures { λ r. ⌜ number r ≡ first (earlyChecks (factsIn (now (image .entry))) (revoke slot (now (filler .entry)))) ⌝ }
+    ensures { λ r. ⌜ number r ≡ first (earlyChecks (factsIn (now (image .entry))) (revoke slot (now (filler .entry)) (now (list .entry)))) ⌝ }
 {
     if !header::arguments::slot_number_ok(slot) {
         return Refusal::BadSlot;
@@ -55,22 +55,28 @@ fn revoke_check(image: &[u8], slot: u8, filler: &[u8]) -> Refusal
     if !fills {
         return Refusal::BadLength;
     }
+    if !sectors::list_ok(image, slot, list) {
+        return Refusal::BadBuffer;
+    }
     Refusal::Accepted
 }
 
-// Revokes a slot: its area is filled, its record disabled, its start and stripes stay.
-// The contract rules out a revoke that clears the record's start, and one that revokes the last slot.
-pub fn revoke(image: &mut [u8], slot: u8, filler: &[u8]) -> Refusal
-    ensures { λ r. ⌜ Does built (now (image .entry)) (revoke slot (now (filler .entry))) (number r) (now (image .exit)) ⌝ }
+// Revokes a slot: its area is filled, its record disabled, its start and stripes stay. The list has the sector writes of it.
+// The contract rules out a revoke that clears the record's start, one that revokes the last slot, and one that leaves the list as it was lent.
+pub fn revoke(image: &mut [u8], slot: u8, filler: &[u8], list: &mut [u8]) -> Refusal
+    ensures { λ r. ⌜ DoesListed built (now (image .entry)) (revoke slot (now (filler .entry)) (now (list .entry)))
+        (number r) (now (image .exit)) (now (list .entry)) (now (list .exit)) ⌝ }
 {
     let h = header::check::header_check(image);
     if header::number_of(h) != 0 {
         return h;
     }
-    let r = revoke_check(image, slot, filler);
+    let r = revoke_check(image, slot, filler, list);
     if header::number_of(r) != 0 {
         return r;
     }
+    let area = sectors::area_of(image, slot);
     slots::disable_slot(image, slot, filler);
+    sectors::put_list(list, 0, image, area);
     r
 }

@@ -5,12 +5,19 @@ use Prim.Native.Nat.{ℕ}
 use Rattle.rules.specs.Profiles.{Table}
 use Rattle.rules.specs.Calls.{Call, Answer, bufferAfter}
 use Rattle.rules.specs.Step.{step}
+use Rattle.rules.specs.Lists.{listAfter}
 use Rattle.rules.specs.Format.{FormatInput, format}
 
--- add, change, revoke and write: the number is the step's, and the image is left as the step leaves it
+-- write: the number is the step's, and the image is left as the step leaves it
 pub record Does (table : Table) (image : List ℕ) (c : Call) (code : ℕ) (after : List ℕ) : Type 0 where
   pub code-is : code ≡ step table image c .said .code
   pub image-is : after ≡ step table image c .image
+
+-- add, change and revoke: the same, and the list's buffer, before the call as given, has the call's sector writes or stays
+pub record DoesListed (table : Table) (image : List ℕ) (c : Call) (code : ℕ) (after before list : List ℕ) : Type 0 where
+  pub code-is : code ≡ step table image c .said .code
+  pub image-is : after ≡ step table image c .image
+  pub list-is : list ≡ listAfter table image c before
 
 -- the two openings: number, slot, L and the 64 key bytes are the step's
 pub record DoesOpen (table : Table) (image : List ℕ) (c : Call) (code slot keyLength : ℕ) (key : List ℕ) : Type 0 where

@@ -9,8 +9,14 @@ pub struct Drive {
     image: Vec<u8>,
     key: Vec<u8>,
     random: Vec<u8>,
+    list: Vec<u8>,
     count: u32,
     header: Vec<u8>,
+}
+
+/// Bytes of the list of an addition: 516 for each sector of the area and for the two of the header.
+fn list_length(random: &[u8], key: &[u8]) -> usize {
+    ((random.len() + key.len()).div_ceil(512) + 2) * 516
 }
 
 fn accepted(call: &str, number: u8) -> Result<(), String> {
@@ -30,14 +36,16 @@ impl Drive {
         let start = if stripes == 1 { 2048 } else { 4096 };
         let mut image = vec![0x5a; (start + units) * 512];
         accepted("format", raw::format(&mut image, profile.number(), stripes, &key, &SALT, 1000, &[b'u'; 36]))?;
-        accepted("add", raw::add(&mut image, 1, &key, PASSPHRASE, &SALT, count, &random))?;
+        let mut list = vec![0; list_length(&random, &key)];
+        accepted("add", raw::add(&mut image, 1, &key, PASSPHRASE, &SALT, count, &random, &mut list))?;
         let header = image[..1024].to_vec();
-        Ok(Drive { image, key, random, count, header })
+        Ok(Drive { image, key, random, list, count, header })
     }
 
     /// Adds a passphrase in slot 2.
     pub fn add(&mut self) -> Result<(), String> {
-        accepted("add", raw::add(&mut self.image, 2, &self.key, b"second", &SALT, self.count, &self.random))
+        let Drive { image, key, random, list, count, .. } = self;
+        accepted("add", raw::add(image, 2, key, b"second", &SALT, *count, random, list))
     }
 
     /// Slot 2 is free again.
@@ -69,5 +77,6 @@ pub fn open(image: &[u8], passphrase: &[u8]) -> Result<Vec<u8>, String> {
 pub fn open_and_add(image: &[u8], passphrase: &[u8], new: &[u8], count: u32, random: &[u8]) -> Result<(), String> {
     let mut changed = image.to_vec();
     let key = open(image, passphrase)?;
-    accepted("add", raw::add(&mut changed, 2, &key, new, &SALT, count, random))
+    let mut list = vec![0; list_length(random, &key)];
+    accepted("add", raw::add(&mut changed, 2, &key, new, &SALT, count, random, &mut list))
 }

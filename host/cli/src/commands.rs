@@ -8,10 +8,9 @@ use crate::rate;
 use crate::screens;
 use crate::signatures;
 use crate::small;
-use crate::stages;
 use crate::transfer;
 use mivrozh::header::{Header, MOST_STRIPES, SECTOR, SLOTS};
-use mivrozh::{FormatInput, Hash, Opened, Profile, Refusal, Secret, SlotInput, Slots};
+use mivrozh::{FormatInput, Hash, Opened, Profile, Refusal, Secret, SectorWrites, SlotInput, Slots};
 use std::time::Duration;
 
 // Where the user says nothing of a derivation's length.
@@ -37,9 +36,11 @@ pub fn format(given: &Given) -> Result<(), Failure> {
     image.drive().format(&input).map_err(|refusal| of_format(refusal, &input, &image))?;
     confirm_loss(given, &image)?;
     let passphrase = passphrase::new(&source, "Passphrase for the new drive: ")?;
-    let header = add_key(&mut image, FIRST_SLOT, &key, &passphrase, count)?;
+    let mut list = vec![0; header_of(&image)?.list_length(FIRST_SLOT)];
+    // The list is not needed: all of the new drive is written.
+    let _ = add_key(&mut image, FIRST_SLOT, &key, &passphrase, count, &mut list)?;
     let payload = payload_shown(payload_units(&image)?);
-    image.write_back(&stages::of_format(&header))?;
+    image.write_new(&header_of(&image)?)?;
     say(format!("made a drive with the UUID {uuid}; key slot {FIRST_SLOT} holds the passphrase\n{payload}"))
 }
 
@@ -114,11 +115,12 @@ pub fn add(given: &Given) -> Result<(), Failure> {
     let (old_source, new_source) = (Source::of(given, "--key-file")?, Source::of(given, "--new-key-file")?);
     let (mut image, slots) = checked(given, Purpose::Writing)?;
     let count = iterations(given, small::profile_of(image.bytes()).map_err(Failure::refused)?)?;
-    let slot = free_slot(given.slot("--slot")?, &slots)?;
+    let slot = free_slot(given.slot("--slot")?, &slots, |slot| Some(cut_addition(slot)))?;
     let opened = open(&mut image, None, &old_source, "Passphrase that the drive has: ")?;
     let passphrase = passphrase::new(&new_source, &format!("New passphrase, for key slot {slot}: "))?;
-    let header = add_key(&mut image, slot, &opened.key, &passphrase, count)?;
-    image.write_back(&stages::of_add(&header, slot))?;
+    let mut list = vec![0; header_of(&image)?.list_length(slot)];
+    let writes = add_key(&mut image, slot, &opened.key, &passphrase, count, &mut list)?;
+    image.carry_out(writes, |_| format!("{AGAIN}, with --slot {slot}"))?;
     say(format!("key slot {} holds the new passphrase", numbered(slot)))
 }
 
@@ -128,26 +130,30 @@ pub fn change(given: &Given) -> Result<(), Failure> {
     let (mut image, slots) = checked(given, Purpose::Writing)?;
     let header = header_of(&image)?;
     let count = iterations(given, small::profile_of(image.bytes()).map_err(Failure::refused)?)?;
-    let to = free_slot(given.slot("--to")?, &slots)?;
     let from = given.slot("--slot")?;
+    let asked = given.slot("--to")?;
+    let to = free_slot(asked, &slots, |to| cut_change(from, to, &slots))?;
     let screen = screens::table(&slots);
     passphrase::show_before(&old_source, &screen)?;
-    let (opened, old) =
-        passphrase::tried(&old_source, "Old passphrase: ", |passphrase| opened_with(&mut image, from, passphrase))?;
+    let (opened, old) = passphrase::tried(&old_source, "Old passphrase: ", |passphrase| {
+        opened_to_change(&mut image, from, asked, passphrase)
+    })?;
     let from = opened.slot;
     if !old_source.asks() {
         passphrase::show_before(&new_source, &screen)?;
     }
     let new = passphrase::new(&new_source, &format!("New passphrase, for key slot {to}: "))?;
 
-    let before = image.bytes()[..2 * SECTOR].to_vec();
     let (salt, random) = (random::salt()?, random::bytes(header.random_length(to))?);
     let filler = random::bytes(header.area_length(from))?;
     let input = SlotInput::new(&new, &salt, count, random.expose());
-    let changed = image.drive().change(from, &old, to, &input, filler.expose());
-    changed.map_err(|refusal| Failure::refused_slot(refusal, to))?;
-    let stages = stages::of_change(&before, image.bytes(), &header, from, to);
-    image.write_back(&stages)?;
+    let mut list = vec![0; header.change_list_length(from, to)];
+    let changed = image.drive().change(from, &old, to, &input, filler.expose(), &mut list);
+    let writes = changed.map_err(|refusal| Failure::refused_slot(refusal, to))?;
+    image.carry_out(writes, |flushed| match flushed {
+        0..STAGES => format!("{AGAIN}, with --slot {from} --to {to}"),
+        _ => finished_by_revoking(from, to),
+    })?;
     say(format!("key slot {} holds the new passphrase, and key slot {} is free", numbered(to), numbered(from)))
 }
 
@@ -156,18 +162,23 @@ pub fn revoke(given: &Given) -> Result<(), Failure> {
     let slot = given.slot("--slot")?.unwrap_or(0);
     let (mut image, slots) = checked(given, Purpose::Writing)?;
     let header = header_of(&image)?;
-    let filler = random::bytes(header.area_length(slot))?;
-    let revoked = image.drive().revoke(slot, filler.expose());
-    revoked.map_err(|refusal| of_used_slot(refusal, slot, &slots))?;
+    let (filler, mut list) = (random::bytes(header.area_length(slot))?, vec![0; header.list_length(slot)]);
+    let revoked = image.drive().revoke(slot, filler.expose(), &mut list);
+    let writes = revoked.map_err(|refusal| of_revoked_slot(refusal, slot, &slots))?;
     let stay = match slots.enabled().count() - 1 {
-        1 => "1 other passphrase stays".into(),
-        others => format!("{others} other passphrases stay"),
+        1 => "1 other key slot stays in use".into(),
+        others => format!("{others} other key slots stay in use"),
     };
-    let screen = screens::table(&slots);
-    let question = format!("{screen}Key slot {} of {} will be revoked; {stay}.", numbered(slot), shown(image.path()));
+    let question = format!(
+        "{}Key slot {} of {} will be revoked; {stay}. See first that one of them opens ('mivrozh test --slot N'): one whose \
+         revocation was cut short opens nothing.",
+        screens::table(&slots),
+        numbered(slot),
+        shown(image.path())
+    );
     let no_terminal = "there is no terminal to ask at; use --force to revoke the key slot unasked";
     confirm(given, &question, Failure::usage(no_terminal))?;
-    image.write_back(&stages::of_revoke(&header, slot))?;
+    image.carry_out(writes, |_| AGAIN.into())?;
     say(format!("key slot {} is free; {stay}", numbered(slot)))
 }
 
@@ -261,25 +272,70 @@ fn header_of(image: &ImageFile) -> Result<Header, Failure> {
     Header::of(image.bytes()).map_err(Failure::refused)
 }
 
-// The slot for a new passphrase: the one that was asked for, if it is free, or the first free one.
-fn free_slot(asked: Option<u8>, slots: &Slots) -> Result<u8, Failure> {
-    match (asked, slots.free()) {
-        (None, Some(free)) => Ok(free),
-        (None, None) => {
-            Err(Failure::refused_because(Refusal::WrongState, "every key slot is in use; revoke one first"))
+// The slot for a new passphrase: the one that was asked for, if it is free, or the first free one. Where that is in use, or
+// every slot is and none was asked for, it may be so since the command was given before and cut short; `cut_short` says what is
+// to be done then, if it may.
+fn free_slot(
+    asked: Option<u8>,
+    slots: &Slots,
+    cut_short: impl FnOnce(Option<u8>) -> Option<String>,
+) -> Result<u8, Failure> {
+    let sentence = match (asked, slots.free()) {
+        (None, Some(free)) => return Ok(free),
+        (None, None) => "every key slot is in use; revoke one first".into(),
+        (Some(slot), _) if !(1..=SLOTS).contains(&slot) => return Err(Failure::refused_slot(Refusal::BadSlot, slot)),
+        (Some(slot), _) if !slots.is_enabled(slot) => return Ok(slot),
+        (Some(slot), Some(free)) => {
+            format!("key slot {} is in use; choose a free one, such as {}", numbered(slot), numbered(free))
         }
-        (Some(slot), _) if !(1..=SLOTS).contains(&slot) => Err(Failure::refused_slot(Refusal::BadSlot, slot)),
-        (Some(slot), _) if !slots.is_enabled(slot) => Ok(slot),
-        (Some(slot), free) => {
-            let sentence = match free {
-                Some(free) => {
-                    format!("key slot {} is in use; choose a free one, such as {}", numbered(slot), numbered(free))
-                }
-                None => format!("key slot {} is in use, and so is every other; revoke one first", numbered(slot)),
-            };
-            Err(Failure::refused_because(Refusal::WrongState, sentence))
+        (Some(slot), None) => {
+            format!("key slot {} is in use, and so is every other; revoke one first", numbered(slot))
         }
+    };
+    let failure = Failure::refused_because(Refusal::WrongState, sentence);
+    Err(match cut_short(asked) {
+        Some(advice) => failure.with_advice(advice),
+        None => failure,
+    })
+}
+
+// What to do where not all of a list could be written. Where that was done all the same, the command is refused and says so.
+const AGAIN: &str = "give the same command again";
+
+// How many stages the list of one slot has: its area, sector 1, sector 0. In a change those of the new slot come first.
+const STAGES: usize = 3;
+
+// The new slot is on the disk. The old one is free by now where it is slot 8 and sector 1 was written.
+fn finished_by_revoking(from: u8, to: u8) -> String {
+    format!(
+        "see that 'mivrozh test --slot {to}' opens with the new passphrase, and then revoke key slot {}, if it is still in use",
+        numbered(from)
+    )
+}
+
+// An addition to a slot that is in use, or where every slot is.
+fn cut_addition(slot: Option<u8>) -> String {
+    match slot {
+        Some(slot) => format!("If an addition to it was cut short, it is done: 'mivrozh test --slot {slot}' tries it"),
+        None => "If an addition was cut short, 'mivrozh test' with the new passphrase says whether it is done".into(),
     }
+}
+
+// A change to a slot that is in use, or where every slot is. Before the old one is revoked it should be seen that the new one
+// opens: it may be in use for another reason.
+fn cut_change(from: Option<u8>, to: Option<u8>, slots: &Slots) -> Option<String> {
+    let Some(to) = to else {
+        let opens = "where 'mivrozh test' opens with the new passphrase";
+        return Some(format!("If a change was cut short: {opens}, revoke the old slot and no other"));
+    };
+    let old = match from {
+        Some(from) if from == to || !(1..=SLOTS).contains(&from) => return None,
+        Some(from) if slots.is_enabled(from) => format!("'mivrozh revoke --slot {from}'"),
+        Some(from) => return Some(format!("If a change of key slot {from} to it was cut short, that is done")),
+        None => "revoking the old slot, if it is still in use,".into(),
+    };
+    let opens = format!("'mivrozh test --slot {to}' opens with the new passphrase");
+    Some(format!("If a change to it was cut short and {opens}, {old} ends that"))
 }
 
 fn open(image: &mut ImageFile, slot: Option<u8>, source: &Source, prompt: &str) -> Result<Opened, Failure> {
@@ -302,6 +358,23 @@ fn opened_with(image: &mut ImageFile, slot: Option<u8>, passphrase: &Secret) -> 
     drive.open_slot(slot, passphrase).map_err(|refusal| of_used_slot(refusal, slot, &slots))
 }
 
+// Opens the slot whose passphrase is to be changed. Where a change of it was cut short, it may open no more; another slot is
+// in use then. A slot that was asked for with `to` is free, so no change to it has come so far.
+fn opened_to_change(
+    image: &mut ImageFile,
+    slot: Option<u8>,
+    to: Option<u8>,
+    passphrase: &Secret,
+) -> Result<Opened, Failure> {
+    let several = image.drive().slots().is_ok_and(|slots| slots.enabled().count() > 1);
+    opened_with(image, slot, passphrase).map_err(|failure| match several && to.is_none() {
+        true if failure.status == Refusal::WrongKey.number() => failure.with_advice(
+            "If a change was cut short and 'mivrozh test' opens with the new passphrase, revoke the old slot",
+        ),
+        _ => failure,
+    })
+}
+
 // A refusal about a slot that has to be in use.
 fn of_used_slot(refusal: Refusal, slot: u8, slots: &Slots) -> Failure {
     let used: Vec<String> = slots.enabled().map(|slot| slot.to_string()).collect();
@@ -318,6 +391,15 @@ fn of_used_slot(refusal: Refusal, slot: u8, slots: &Slots) -> Failure {
     }
 }
 
+// A refusal of a revocation. A slot that is free may be so since the command was given before and cut short.
+fn of_revoked_slot(refusal: Refusal, slot: u8, slots: &Slots) -> Failure {
+    let failure = of_used_slot(refusal, slot, slots);
+    match refusal {
+        Refusal::WrongState => failure.with_advice("If its revocation was cut short, it is done"),
+        _ => failure,
+    }
+}
+
 fn beyond(refusal: Refusal, payload: u64) -> Failure {
     match refusal {
         Refusal::BadRange if payload == 0 => Failure::refused_because(refusal, payload_shown(payload)),
@@ -330,11 +412,16 @@ fn beyond(refusal: Refusal, payload: u64) -> Failure {
     }
 }
 
-// Adds the key to a slot, in memory, and gives the header from before, by which the areas lie.
-fn add_key(image: &mut ImageFile, slot: u8, key: &Secret, passphrase: &Secret, count: u32) -> Result<Header, Failure> {
-    let header = header_of(image)?;
-    let (salt, random) = (random::salt()?, random::bytes(header.random_length(slot))?);
+// Adds the key to a slot, in memory, and gives what is to be written to the disk.
+fn add_key<'l>(
+    image: &mut ImageFile,
+    slot: u8,
+    key: &Secret,
+    passphrase: &Secret,
+    count: u32,
+    list: &'l mut [u8],
+) -> Result<SectorWrites<'l>, Failure> {
+    let (salt, random) = (random::salt()?, random::bytes(header_of(image)?.random_length(slot))?);
     let input = SlotInput::new(passphrase, &salt, count, random.expose());
-    image.drive().add(slot, key, &input).map_err(|refusal| Failure::refused_slot(refusal, slot))?;
-    Ok(header)
+    image.drive().add(slot, key, &input, list).map_err(|refusal| Failure::refused_slot(refusal, slot))
 }

@@ -74,6 +74,11 @@ impl Failure {
     pub fn input_output(what: impl Display, error: &io::Error) -> Failure {
         Failure::new(INPUT_OUTPUT, format!("{what}: {}", said(error)))
     }
+
+    /// The same failure with one more sentence, about what to do then.
+    pub fn with_advice(self, advice: impl Display) -> Failure {
+        Failure::new(self.status, format!("{}. {advice}.", self.message.trim_end_matches('.')))
+    }
 }
 
 /// A name that was given, for a message: what is no text or would not show as it is, such as a control character, is
@@ -105,7 +110,7 @@ fn said(error: &io::Error) -> String {
         io::ErrorKind::NotFound => "there is no such file; check the name".into(),
         io::ErrorKind::PermissionDenied => "permission denied; check the file's owner and mode".into(),
         io::ErrorKind::ReadOnlyFilesystem => "the file system is read-only; mount it for writing".into(),
-        io::ErrorKind::StorageFull => "the disk is full; make room and try again".into(),
+        io::ErrorKind::StorageFull => "the disk is full; make room on it first".into(),
         _ => error.to_string(),
     }
 }

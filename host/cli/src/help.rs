@@ -28,10 +28,22 @@ the terminal, up to three times where it is mistyped; it is never an argument. A
 passphrase each. cryptsetup and qemu count the same slots from 0: our slot 1 is their slot 0. A unit of the payload is 512
 bytes.
 
-A drive is changed sector by sector, in an order in which a cut leaves it open to the old or to the new passphrase. While
-the tool uses it, it is locked against other runs of this tool and against qemu; a block device that is written must be in
-use by nothing else, such as a mounted file system, and a file must not be attached to a loop device. Programs that keep to
-no lock cannot be kept away: cryptsetup on drives of version 1, dd, or another machine that shares the disk.
+A drive is changed sector by sector, in an order in which a cut harms no other passphrase, and of a change leaves the old one
+or the new one. While the tool uses it, it is locked against other runs of this tool and against qemu; a block device that
+is written must be in use by nothing else, such as a mounted file system, and a file must not be attached to a loop device.
+Programs that keep to no lock cannot be kept away: cryptsetup on drives of version 1, dd, or another machine that shares
+the disk.
+
+Where a disk fails on the way, what it holds may be known only after a restart. The message says so: restart the machine then,
+or unplug the disk and plug it in again, before any other command, and revoke nothing before that.
+
+After a power cut:
+  format   give the same command again; where the start is no longer zeros, it asks whether that may be lost, or needs --force
+  add      give it again; where it is refused since its slot is in use, it was done
+  change   give it again; where it is refused since the new slot is in use, see that the new passphrase opens that, and revoke
+           the old slot, if that is in use too
+  revoke   give it again, before any other command: till then its slot may count as in use and open with no passphrase
+  write    give it again
 
 Exit status:
    0       done
@@ -61,6 +73,8 @@ on a whole mebibyte, so the file must be there and be long enough: 2 MiB and the
 the payload where fewer stripes let the key areas end before that. The payload keeps its bytes. All that stands before it is
 lost: an older drive, a file system or a partition table. Where that is anything but zeros, you are told what it is and asked.
 
+After a power cut give the same command again. The start may no longer be zeros then: you are asked, or --force is needed.
+
 Options:
   --hash NAME                sha1 or sha256 (default sha1: a reader may know no other); ask for sha256 where every reader of
                              the drive knows it
@@ -86,7 +100,8 @@ mivrozh add: add a passphrase
 
 Usage: mivrozh add [OPTIONS] IMAGE
 
-Opens the drive with a passphrase that it has, and puts its key under a new one into a free key slot.
+Opens the drive with a passphrase that it has, and puts its key under a new one into a free key slot. After a power cut give
+the same command again; where it is refused since the slot is in use, it was done.
 
 Options:
   --slot N                   the key slot, 1 to 8 (default: the first free one); cryptsetup counts from 0: our 1 is its 0
@@ -112,6 +127,10 @@ Opens a key slot with its passphrase, puts the key under the new passphrase into
 a free slot is needed, and the passphrase has another slot afterwards. Where a passphrase is asked for, you see first
 which slots are enabled.
 
+After a power cut give the same command again. Where it is refused since the new slot is in use, see that the new passphrase
+opens that, and revoke the old slot, if that is in use too. Without --to a free slot is chosen anew, and may be another one:
+'mivrozh slots' shows which slots are enabled.
+
 Options:
   --slot N                   the key slot to change, 1 to 8 (default: the first that the passphrase opens); cryptsetup
                              counts from 0: our 1 is its 0
@@ -136,6 +155,9 @@ Usage: mivrozh revoke [OPTIONS] --slot N IMAGE
 
 Overwrites the slot's area with random bytes and disables the slot. No passphrase is asked for, but whether this slot is
 meant, and you see which slots are enabled. The last slot in use is not revoked.
+
+After a power cut give the same command again, before any other. Till then the slot may count as in use and open with no
+passphrase, so that the last one that opens could be revoked.
 
 Options:
   --slot N    the key slot, 1 to 8; cryptsetup counts from 0: our 1 is its 0

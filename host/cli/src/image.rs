@@ -1,11 +1,10 @@
 //! An image file: opened, locked, and loaded into memory of this process. The engine works on that memory; the file changes
-//! only by `write_back` and `store`.
+//! only by `write_new`, `carry_out` and `store`.
 use crate::failure::{self, shown, Failure};
 use crate::small::QuickChecksum;
-use crate::stages::Stage;
 use crate::system::{self, Memory};
 use mivrozh::header::{Header, SECTOR};
-use mivrozh::Drive;
+use mivrozh::{Drive, SectorWrites};
 use std::fs::{File, OpenOptions, TryLockError};
 use std::io::{self, Seek, SeekFrom};
 use std::ops::Range;
@@ -35,12 +34,13 @@ pub struct ImageFile {
     file: File,
     // The header and the key areas as they were loaded and, after a call, as the engine has left them.
     memory: Memory,
-    // The header's sectors as they are on the disk.
+    // The header's sectors as they were loaded.
     header: Vec<u8>,
 }
 
 impl ImageFile {
-    /// Opens and locks a file or block device and loads its header and the key areas that the purpose needs.
+    /// Opens and locks a file or block device and loads its header and the key areas that the purpose needs. For writing, what
+    /// was written to it before is on the disk by then.
     pub fn open(path: &Path, purpose: Purpose) -> Result<ImageFile, Failure> {
         let kind = path.metadata().map_err(|error| Failure::no_input(path, &error))?.file_type();
         if !(kind.is_file() || kind.is_block_device()) {
@@ -57,6 +57,9 @@ impl ImageFile {
         }
         let length = length_of(&mut file).map_err(|error| Failure::no_input(path, &error))?;
         let mut image = ImageFile { path: path.into(), file, memory: memory(length, path)?, header: Vec::new() };
+        if writing {
+            image.flush()?;
+        }
         image.load_header_and_areas(purpose)?;
         Ok(image)
     }
@@ -104,29 +107,51 @@ impl ImageFile {
 
     /// Writes a part of the payload to the file at once; `flush` brings it to the disk.
     pub fn store(&self, memory: &Memory, part: Range<usize>) -> Result<(), Failure> {
-        self.check_header_on_disk()?;
+        self.check_header_in_file()?;
         let at = part.start as u64;
         self.file.write_all_at(&memory.bytes()[part], at).map_err(|error| self.unwritten(&error))
     }
 
     pub fn flush(&self) -> Result<(), Failure> {
-        self.file.sync_data().map_err(|error| self.unwritten(&error))
+        self.file.sync_data().map_err(|error| self.untaken(&error).with_advice("Then give the same command again"))
     }
 
-    /// Writes the stages to the file, one after the other, each flushed to the disk before the next begins. Of a stage only
-    /// the sectors are written that differ from the file's, one by one.
-    pub fn write_back(&mut self, stages: &[Stage]) -> Result<(), Failure> {
-        self.check_header_on_disk()?;
-        for stage in stages {
-            let (at, bytes) = match stage {
-                Stage::Sectors(sectors) => {
-                    let at = sectors.start * SECTOR;
-                    (at, &self.bytes()[at..sectors.end * SECTOR])
-                }
-                Stage::Given { sector, bytes } => (sector * SECTOR, &bytes[..]),
-            };
+    /// Writes a new drive up to its payload. The magic of what stood there goes first, and the new one comes last. So a cut
+    /// leaves no header that is half old and half new, and no drive without a passphrase.
+    pub fn write_new(&self, header: &Header) -> Result<(), Failure> {
+        self.check_header_in_file()?;
+        let (first, rest) = self.bytes()[..header.payload_start as usize * SECTOR].split_at(SECTOR);
+        for (at, bytes) in [(0, &[0; SECTOR][..]), (SECTOR, rest), (0, first)] {
             write_changed(&self.file, at, bytes).map_err(|error| self.unwritten(&error))?;
             self.flush()?;
+        }
+        Ok(())
+    }
+
+    /// Carries out the engine's list of sector writes, one by one and all of them, each stage flushed to the disk before the
+    /// next begins. Where that fails on the way, `advice` says how to end the work, by the number of stages that were flushed.
+    /// What a read would give says nothing: it comes from the system's cache.
+    pub fn carry_out(&self, writes: SectorWrites, advice: impl FnOnce(usize) -> String) -> Result<(), Failure> {
+        self.check_header_in_file()?;
+        self.write_stages(writes).map_err(|halt| match halt {
+            Halt::Write(error, flushed) => {
+                self.unwritten(&error).with_advice(format_args!("To end the work, {}", advice(flushed)))
+            }
+            Halt::Flush(error, flushed) => {
+                self.untaken(&error).with_advice(format_args!("Then, to end the work, {}", advice(flushed)))
+            }
+        })
+    }
+
+    // What stands in the file is on the disk first, also what a run before has written that was killed.
+    fn write_stages(&self, writes: SectorWrites) -> Result<(), Halt> {
+        self.file.sync_data().map_err(|error| Halt::Flush(error, 0))?;
+        for (flushed, stage) in writes.stages().enumerate() {
+            for write in stage {
+                let written = self.file.write_all_at(write.bytes, write.offset());
+                written.map_err(|error| Halt::Write(error, flushed))?;
+            }
+            self.file.sync_data().map_err(|error| Halt::Flush(error, flushed))?;
         }
         Ok(())
     }
@@ -153,14 +178,17 @@ impl ImageFile {
         Ok(())
     }
 
+    // From the disk, where nothing newer is on its way to it: after a flush that failed the cache may hold what the disk does
+    // not.
     fn load_own(&mut self, part: Range<usize>) -> Result<(), Failure> {
+        system::forget_cached(&self.file, &part);
         let at = part.start as u64;
         let read = self.file.read_exact_at(&mut self.memory.bytes_mut()[part], at);
         read.map_err(|error| self.unreadable(&error))
     }
 
-    // Is the header on the disk the one that was loaded? A program that keeps to no lock may have changed it.
-    fn check_header_on_disk(&self) -> Result<(), Failure> {
+    // Is the header in the file the one that was loaded? A program that keeps to no lock may have changed it.
+    fn check_header_in_file(&self) -> Result<(), Failure> {
         let there = self.beginning(self.header.len())?;
         if there == self.header {
             return Ok(());
@@ -184,6 +212,20 @@ impl ImageFile {
     fn unwritten(&self, error: &io::Error) -> Failure {
         Failure::input_output(format_args!("{}: not everything could be written", shown(&self.path)), error)
     }
+
+    // After a flush that failed the cache may show what was written, and the disk may have it, in part or not at all.
+    fn untaken(&self, error: &io::Error) -> Failure {
+        self.unwritten(error).with_advice(
+            "The disk did not take what was written, and what it holds is known only after a restart: first restart the \
+             machine, or unplug the disk and plug it in again, and revoke nothing before that",
+        )
+    }
+}
+
+// Where the carrying out of a list came to a halt: in a write or in a flush, after so many flushed stages.
+enum Halt {
+    Write(io::Error, usize),
+    Flush(io::Error, usize),
 }
 
 fn memory(length: usize, path: &Path) -> Result<Memory, Failure> {

@@ -16,7 +16,6 @@ mod screens;
 mod sections;
 mod signatures;
 mod small;
-mod stages;
 #[allow(unsafe_code)]
 mod system;
 #[allow(unsafe_code)]

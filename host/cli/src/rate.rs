@@ -39,7 +39,8 @@ fn derivation_time(profile: Profile, count: u32) -> Result<Duration, Refusal> {
     let (key, passphrase) = (Secret::zeroed(profile.key_bytes()), Secret::zeroed(1));
     let mut image = small::drive(profile, &key, 1)?;
     let mut drive = Drive::over(&mut image[..]);
-    drive.add(SLOT, &key, &SlotInput::new(&passphrase, &[0; 32], count, &[]))?;
+    let mut list = vec![0; drive.header()?.list_length(SLOT)];
+    let _ = drive.add(SLOT, &key, &SlotInput::new(&passphrase, &[0; 32], count, &[]), &mut list)?;
     let start = Instant::now();
     drive.open_slot(SLOT, &passphrase)?;
     Ok(start.elapsed())

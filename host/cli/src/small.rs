@@ -73,7 +73,8 @@ mod tests {
             let mut image = vec![0; before_payload(profile, 1).expect("a drive") + 3 * SECTOR];
             let mut drive = Drive::over(&mut image[..]);
             drive.format(&FormatInput::new(profile, &key, &[3; 32], 5000, UUID).stripes(1)).expect("a drive");
-            drive.add(1, &key, &SlotInput::new(&other, &[4; 32], 1000, &[])).expect("a passphrase");
+            let mut list = vec![0; drive.header().expect("a header").list_length(1)];
+            let _ = drive.add(1, &key, &SlotInput::new(&other, &[4; 32], 1000, &[]), &mut list).expect("a passphrase");
             let before = image.clone();
             assert_eq!(profile_of(&image), Ok(profile));
             QuickChecksum::of(&image, &key).expect("a checksum").put(&mut image);

@@ -1,4 +1,5 @@
-//! What the standard library does not have: memory as long as a drive, locks that qemu sees, and no dump of the process.
+//! What the standard library does not have: memory as long as a drive, reads from the disk in place of the system's cache,
+//! locks that qemu sees, and no dump of the process.
 //! The unsafe code of the tool is here and in `terminal`, for Linux on x86-64: the binding compiles nowhere else.
 use std::ffi::c_void;
 use std::fs::File;
@@ -11,6 +12,7 @@ extern "C" {
     fn munmap(address: *mut c_void, length: usize) -> i32;
     fn madvise(address: *mut c_void, length: usize, advice: i32) -> i32;
     fn fcntl(file: i32, command: i32, ...) -> i32;
+    fn posix_fadvise(file: i32, start: i64, length: i64, advice: i32) -> i32;
     fn poll(files: *mut Polled, count: u64, milliseconds: i32) -> i32;
     fn prctl(option: i32, ...) -> i32;
     fn setrlimit(resource: i32, limit: *const Limit) -> i32;
@@ -24,6 +26,7 @@ const MAP_NORESERVE: i32 = 0x4000;
 const MADV_DONTNEED: i32 = 4;
 const MADV_NOHUGEPAGE: i32 = 15;
 const PAGE: usize = 4096;
+const POSIX_FADV_DONTNEED: i32 = 4;
 
 /// Memory as long as a drive and private to this process: no other program can change what a call of the engine reads.
 /// It is zeros until something is loaded into it, and what holds nothing but zeros takes no room.
@@ -89,6 +92,18 @@ impl Drop for Memory {
             unsafe { munmap(self.start, self.length) };
         }
     }
+}
+
+/// Has the system forget the pages that it holds of these bytes of a file, so that the next read comes from the disk. What is
+/// still on its way to the disk stays. Where the system keeps a page all the same, it is read as before.
+pub fn forget_cached(file: &File, bytes: &Range<usize>) {
+    let (from, to) = (bytes.start / PAGE * PAGE, bytes.end.next_multiple_of(PAGE));
+    // A length of 0 would stand for all that follows.
+    if bytes.is_empty() {
+        return;
+    }
+    // SAFETY: the file is open, and the call changes none of its bytes and no memory.
+    unsafe { posix_fadvise(file.as_raw_fd(), from as i64, (to - from) as i64, POSIX_FADV_DONTNEED) };
 }
 
 // `struct flock` of the C library.

@@ -289,10 +289,11 @@ pub fn write(image: &ImageFile, key: &Secret, first: u64, input: File, units: Op
     let writing = Writing { payload: Payload::new(image, key, units)?, stopped: AtomicBool::new(false) };
     let progress = Progress::new("written", units);
     let (progress, failure) = pipeline::run(&writing, writing.payload.plan.workers, (input, first), progress);
-    let flushed = image.flush();
-    match failure.or(flushed.err()) {
-        None => Ok(progress.done),
-        Some(failure) => Err(after_units(failure, progress.done)),
+    match (failure, image.flush()) {
+        (None, Ok(())) => Ok(progress.done),
+        (Some(failure), Ok(())) => Err(after_units(failure, progress.done)),
+        // The disk did not take what was written, so nothing is said of units.
+        (Some(failure), Err(_)) | (None, Err(failure)) => Err(failure),
     }
 }
 

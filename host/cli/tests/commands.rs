@@ -387,7 +387,7 @@ fn messages_and_help_say_what_cryptsetup_calls_a_slot() {
     let added = folder.line("add --iterations 1000 --key-file one --new-key-file two --slot 4 drive").accepted();
     assert_eq!(added.out, "key slot 4 (cryptsetup's 3) holds the new passphrase\n");
     let revoked = folder.line("revoke --force --slot 4 drive").accepted();
-    assert_eq!(revoked.out, "key slot 4 (cryptsetup's 3) is free; 1 other passphrase stays\n");
+    assert_eq!(revoked.out, "key slot 4 (cryptsetup's 3) is free; 1 other key slot stays in use\n");
     assert!(folder.line("--help").accepted().out.contains("our slot 1 is their slot 0"));
     for name in ["add", "change", "revoke", "slots", "test"] {
         let help = folder.line(&format!("{name} --help")).accepted().out;

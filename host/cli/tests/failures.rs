@@ -289,6 +289,23 @@ fn arguments_that_the_engine_refuses() {
     assert!(folder.opens("longest"));
 }
 
+// A slot that is in use may be so since a command was cut short. Whoever gives one slot for both has seen no such change.
+#[test]
+fn slots_that_are_in_use_after_a_cut() {
+    let folder = Folder::with_drive();
+    let words = |line: &str, words: &str| unchanged(&folder, line).refused(15, words).err;
+    words("add --slot 1 drive", "If an addition to it was cut short, it is done: 'mivrozh test --slot 1' tries it.");
+    words(
+        "change --to 1 drive",
+        "opens with the new passphrase, revoking the old slot, if it is still in use, ends that.",
+    );
+    words("change --slot 2 --to 1 drive", "If a change of key slot 2 to it was cut short, that is done.");
+    words("revoke --slot 2 drive", "If its revocation was cut short, it is done.");
+    for line in ["change --slot 1 --to 1 drive", "change --slot 9 --to 1 drive"] {
+        assert!(!words(line, "key slot 1 (cryptsetup's 0) is in use").contains("cut short"));
+    }
+}
+
 #[test]
 fn a_wrong_passphrase() {
     let folder = Folder::with_drive();
@@ -304,6 +321,12 @@ fn a_wrong_passphrase() {
     }
     unchanged(&folder, "test --slot 1 --key-file two drive")
         .refused(17, "key slot 1 does not open with this passphrase");
+    // No change was cut short where only one slot is in use.
+    let line = "change --slot 1 --key-file two --new-key-file three drive";
+    assert!(!unchanged(&folder, line).refused(17, "does not open").err.contains("cut short"));
+    folder.line("add --iterations 1000 --key-file one --new-key-file three drive").accepted();
+    unchanged(&folder, line)
+        .refused(17, "does not open with this passphrase; check both. If a change was cut short and");
     assert!(!folder.path("out").exists());
 }
 

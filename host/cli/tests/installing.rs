@@ -70,6 +70,10 @@ fn the_manual_page_says_what_the_help_says() {
         assert!(!section(&page, heading, "").trim().is_empty(), "{heading}");
     }
     let words = |text: &str| text.split_whitespace().collect::<Vec<_>>().join(" ");
+    let after_a_cut = words(section(&page, "AFTER A POWER CUT", ""));
+    for line in list(&help, "\nAfter a power cut:\n") {
+        assert!(after_a_cut.contains(&words(line)), "{line}");
+    }
     let (status, examples) = (words(section(&page, "EXIT STATUS", "")), words(section(&page, "EXAMPLES", "")));
     for line in list(&help, "\nExit status:\n") {
         assert!(status.contains(&words(line)), "{line}");

@@ -86,8 +86,8 @@ fn revoke_asks_at_a_terminal() {
         folder.line(&format!("add --iterations 1000 --key-file one --new-key-file {key_file} drive")).accepted();
     }
     let before = folder.get("drive");
-    let question =
-        "Key slot 2 (cryptsetup's 1) of drive will be revoked; 2 other passphrases stay. Type yes to go on: ";
+    let question = "Key slot 2 (cryptsetup's 1) of drive will be revoked; 2 other key slots stay in use. See first that one of \
+                    them opens ('mivrozh test --slot N'): one whose revocation was cut short opens nothing. Type yes to go on: ";
     for answer in ["no\n", "\n", "y\n"] {
         let mut session = start(&folder, "revoke --slot 2 drive");
         session.answer(question, answer);

@@ -240,8 +240,8 @@ fn on_terminal() -> String {
 fn revoke_shows_the_slots_before_it_asks() {
     let folder = with_three();
     let before = folder.get("drive");
-    let question =
-        "Key slot 3 (cryptsetup's 2) of drive will be revoked; 2 other passphrases stay. Type yes to go on: ";
+    let question = "Key slot 3 (cryptsetup's 2) of drive will be revoked; 2 other key slots stay in use. See first that one of \
+                    them opens ('mivrozh test --slot N'): one whose revocation was cut short opens nothing. Type yes to go on: ";
     let mut session = start(&folder, "revoke --slot 3 drive");
     assert_eq!(session.wait_for("Type yes to go on: "), format!("{}{question}", on_terminal()));
     session.keys("no\n");

@@ -40,7 +40,8 @@ fn the_walkthrough_works_as_it_stands() {
         ("New passphrase, for key slot 3: ", third),
         ("The same again: ", third),
         (
-            "Key slot 1 (cryptsetup's 0) of drive.img will be revoked; 1 other passphrase stays. Type yes to go on: ",
+            "Key slot 1 (cryptsetup's 0) of drive.img will be revoked; 1 other key slot stays in use. See first that one of them \
+             opens ('mivrozh test --slot N'): one whose revocation was cut short opens nothing. Type yes to go on: ",
             "yes\n",
         ),
         ("Passphrase: ", third),

@@ -6,6 +6,7 @@ use crate::peers::{Cryptsetup, Qemu};
 use crate::screens::{agree, enabled, of_model};
 use crate::work::{load, random, refused_with, salt, store, Checks, Folder, Kind, Outcome};
 use model::header::Header;
+use model::writes::ENTRY;
 use model::xts::SECTOR;
 use model::{Call, Model};
 use std::path::{Path, PathBuf};
@@ -115,8 +116,9 @@ fn made_before(image: Vec<u8>, kind: Kind) -> Outcome<Vec<u8>> {
     let (profile, key, count) = (kind.profile(), random(kind.bits / 8)?, 1000);
     let uuid = b"6d69767a-6f68-4256-8000-00000000bef0".to_vec();
     let format = Call::Format { profile, stripes: 4000, key: key.clone(), salt: salt()?, count, uuid };
-    let (passphrase, stripes) = (FIRST.as_bytes().to_vec(), random(3999 * key.len())?);
-    let add = Call::Add { slot: 1, key, passphrase, salt: salt()?, count, random: stripes };
+    let (passphrase, random) = (FIRST.as_bytes().to_vec(), random(3999 * key.len())?);
+    let list = vec![0; (4000 * key.len() / SECTOR + 2) * ENTRY];
+    let add = Call::Add { slot: 1, key, passphrase, salt: salt()?, count, random, list };
     let mut model = Model::aligned(1);
     [format, add].iter().try_fold(image, |image, call| {
         let out = model.step(&image, call);

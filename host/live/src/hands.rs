@@ -4,6 +4,7 @@ use crate::screens::{self, Shown};
 use crate::work::{load, output, random, salt, store, text, Folder, Kind, Outcome};
 use mivrozh::{raw, Drive, Refusal};
 use model::header::Header;
+use model::writes::{self, carry_out, decoded};
 use model::xts::SECTOR;
 use std::path::{Path, PathBuf};
 
@@ -59,6 +60,23 @@ fn stripes_of(image: &[u8], slot: u8, without: u32) -> usize {
     h.slot(slot).map_or(0, |s| (s.stripes - without) as usize * h.key_bytes as usize)
 }
 
+/// A buffer for the list of the work on these slots.
+pub fn list_for(image: &[u8], slots: &[u8]) -> Vec<u8> {
+    let h = Header::read(image);
+    let length = |k: &u8| h.slot(*k).map_or(0, |slot| writes::length(slot, h.key_bytes));
+    vec![0; slots.iter().map(length).sum::<u128>() as usize]
+}
+
+/// Carries out the list of an accepted call on the file, which has the image from before; that must make the image after.
+fn store_list(path: &Path, list: &[u8], after: &[u8]) -> Outcome<()> {
+    let mut bytes = load(path)?;
+    carry_out(&mut bytes, &decoded(list));
+    if bytes != after {
+        return Err("the list, carried out on the image before, does not make the one after".into());
+    }
+    store(path, &bytes)
+}
+
 impl Hand for Library {
     fn name(&self) -> &'static str {
         "library"
@@ -69,8 +87,8 @@ impl Hand for Library {
         let key = random(kind.bits / 8)?;
         let uuid = b"6d69767a-6f68-4256-8000-0000000011fe";
         accepted("format", raw::format(&mut bytes, kind.profile(), 4000, &key, &salt()?, COUNT, uuid))?;
-        let stripes = random(stripes_of(&bytes, 1, 1))?;
-        accepted("add", raw::add(&mut bytes, 1, &key, passphrase.as_bytes(), &salt()?, COUNT, &stripes))?;
+        let (stripes, mut list) = (random(stripes_of(&bytes, 1, 1))?, list_for(&bytes, &[1]));
+        accepted("add", raw::add(&mut bytes, 1, &key, passphrase.as_bytes(), &salt()?, COUNT, &stripes, &mut list))?;
         store(image, &bytes)
     }
 
@@ -89,24 +107,24 @@ impl Hand for Library {
     fn add(&self, image: &Path, known: &str, slot: u8, new: &str) -> Outcome<()> {
         let mut bytes = load(image)?;
         let key = key_of(&bytes, known)?;
-        let stripes = random(stripes_of(&bytes, slot, 1))?;
-        accepted("add", raw::add(&mut bytes, slot, &key, new.as_bytes(), &salt()?, COUNT, &stripes))?;
-        store(image, &bytes)
+        let (stripes, mut list) = (random(stripes_of(&bytes, slot, 1))?, list_for(&bytes, &[slot]));
+        accepted("add", raw::add(&mut bytes, slot, &key, new.as_bytes(), &salt()?, COUNT, &stripes, &mut list))?;
+        store_list(image, &list, &bytes)
     }
 
     fn change(&self, image: &Path, from: u8, old: &str, to: u8, new: &str) -> Outcome<()> {
         let mut bytes = load(image)?;
         let (stripes, filler) = (random(stripes_of(&bytes, to, 1))?, random(stripes_of(&bytes, from, 0))?);
-        let (old, new) = (old.as_bytes(), new.as_bytes());
-        accepted("change", raw::change(&mut bytes, from, old, to, new, &salt()?, COUNT, &stripes, &filler))?;
-        store(image, &bytes)
+        let (old, new, mut list) = (old.as_bytes(), new.as_bytes(), list_for(&bytes, &[to, from]));
+        accepted("change", raw::change(&mut bytes, from, old, to, new, &salt()?, COUNT, &stripes, &filler, &mut list))?;
+        store_list(image, &list, &bytes)
     }
 
     fn revoke(&self, image: &Path, slot: u8) -> Outcome<()> {
         let mut bytes = load(image)?;
-        let filler = random(stripes_of(&bytes, slot, 0))?;
-        accepted("revoke", raw::revoke(&mut bytes, slot, &filler))?;
-        store(image, &bytes)
+        let (filler, mut list) = (random(stripes_of(&bytes, slot, 0))?, list_for(&bytes, &[slot]));
+        accepted("revoke", raw::revoke(&mut bytes, slot, &filler, &mut list))?;
+        store_list(image, &list, &bytes)
     }
 
     fn read(&self, image: &Path, passphrase: &str, first: u64, units: u64) -> Outcome<Vec<u8>> {

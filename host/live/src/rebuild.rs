@@ -2,7 +2,7 @@
 //! payload start too, where cryptsetup puts it as it likes.
 
 use crate::exchange::{make, payload_start, Maker, FIRST, UNITS};
-use crate::hands::Library;
+use crate::hands::{list_for, Library};
 use crate::peers::{Cryptsetup, Qemu};
 use crate::work::{load, random, store, Checks, Folder, Kind, Outcome};
 use mivrozh::raw;
@@ -70,7 +70,8 @@ fn area(image: &[u8], taken: &Taken) -> std::ops::Range<usize> {
 fn add(image: &mut [u8], key: &[u8], taken: &Taken) -> Outcome<()> {
     let random = &taken.stripes[..taken.stripes.len() - key.len()];
     let (passphrase, record) = (taken.passphrase.as_bytes(), &taken.record);
-    match raw::add(image, taken.slot, key, passphrase, &record.salt, record.count, random) {
+    let mut list = list_for(image, &[taken.slot]);
+    match raw::add(image, taken.slot, key, passphrase, &record.salt, record.count, random, &mut list) {
         0 => Ok(()),
         number => Err(format!("add in slot {} is refused by {number}", taken.slot)),
     }
@@ -79,8 +80,8 @@ fn add(image: &mut [u8], key: &[u8], taken: &Taken) -> Outcome<()> {
 /// The peer's image with one slot wiped, and added again.
 fn add_again(theirs: &[u8], key: &[u8], taken: &Taken) -> Outcome<Vec<u8>> {
     let mut image = theirs.to_vec();
-    let filler = random(taken.stripes.len())?;
-    match raw::revoke(&mut image, taken.slot, &filler) {
+    let (filler, mut list) = (random(taken.stripes.len())?, list_for(&image, &[taken.slot]));
+    match raw::revoke(&mut image, taken.slot, &filler, &mut list) {
         0 => add(&mut image, key, taken).map(|()| image),
         number => Err(format!("revoke of slot {} is refused by {number}", taken.slot)),
     }

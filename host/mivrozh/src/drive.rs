@@ -1,5 +1,5 @@
 //! The calls on a drive.
-use crate::{raw, Header, Profile, Refusal, Secret, SlotDetails, Slots};
+use crate::{raw, Header, Profile, Refusal, Secret, SectorWrites, SlotDetails, Slots};
 use std::fmt;
 
 /// A drive in an image that was lent: the header, the eight key areas and the payload.
@@ -13,7 +13,7 @@ use std::fmt;
 /// let image = [0; 1024];
 /// assert_eq!(Drive::over(&image[..]).check(), Err(Refusal::Magic));
 /// let mut image = [0; 1024];
-/// assert_eq!(Drive::over(&mut image[..]).revoke(1, &[]), Err(Refusal::Magic));
+/// assert_eq!(Drive::over(&mut image[..]).revoke(1, &[], &mut []), Err(Refusal::Magic));
 /// ```
 ///
 /// What can only be read cannot be changed:
@@ -21,7 +21,7 @@ use std::fmt;
 /// ```compile_fail,E0599
 /// # use mivrozh::{Drive, Refusal};
 /// let image = [0; 1024];
-/// assert_eq!(Drive::over(&image[..]).revoke(1, &[]), Err(Refusal::Magic));
+/// assert_eq!(Drive::over(&image[..]).revoke(1, &[], &mut []), Err(Refusal::Magic));
 /// ```
 pub struct Drive<I> {
     image: I,
@@ -171,21 +171,50 @@ impl<I: AsRef<[u8]> + AsMut<[u8]>> Drive<I> {
         ))
     }
 
-    /// Puts the master key under a passphrase into a free slot.
-    pub fn add(&mut self, slot: u8, key: &Secret, input: &SlotInput) -> Result<(), Refusal> {
+    /// Puts the master key under a passphrase into a free slot. The list buffer is as long as [`Header::list_length`] says;
+    /// what it is filled with is what goes to the disk. Where the call is refused, image and buffer stay as they were.
+    pub fn add<'l>(
+        &mut self,
+        slot: u8,
+        key: &Secret,
+        input: &SlotInput,
+        list: &'l mut [u8],
+    ) -> Result<SectorWrites<'l>, Refusal> {
         let (image, passphrase) = (self.image.as_mut(), input.passphrase.expose());
-        Refusal::answer(raw::add(image, slot, key.expose(), passphrase, input.salt, input.count, input.random))
+        let number = raw::add(image, slot, key.expose(), passphrase, input.salt, input.count, input.random, list);
+        Refusal::answer(number).map(|()| SectorWrites::of(list))
     }
 
-    /// Opens slot `from`, adds its key to the free slot `to` under the new passphrase, and revokes `from`.
-    pub fn change(&mut self, from: u8, old: &Secret, to: u8, input: &SlotInput, filler: &[u8]) -> Result<(), Refusal> {
+    /// Opens slot `from`, adds its key to the free slot `to` under the new passphrase, and revokes `from`. The list buffer is as
+    /// long as [`Header::change_list_length`] says. Where the call is refused, image and buffer stay as they were.
+    ///
+    /// Where the writes were cut while slot `to` is still disabled, the same call, given again before any other, ends the
+    /// change. Where `to` is enabled by then, the call is not repeated: a revocation of `from` ends the change, or is refused
+    /// with 15 since it is done. With the same salt, random bytes and filler the image is the uncut one, byte for byte; with
+    /// new ones the change is ended as well. Till then `from` may be enabled and open with no passphrase, as after a cut
+    /// [revocation](Drive::revoke).
+    pub fn change<'l>(
+        &mut self,
+        from: u8,
+        old: &Secret,
+        to: u8,
+        input: &SlotInput,
+        filler: &[u8],
+        list: &'l mut [u8],
+    ) -> Result<SectorWrites<'l>, Refusal> {
         let (image, old, new) = (self.image.as_mut(), old.expose(), input.passphrase.expose());
-        Refusal::answer(raw::change(image, from, old, to, new, input.salt, input.count, input.random, filler))
+        let number = raw::change(image, from, old, to, new, input.salt, input.count, input.random, filler, list);
+        Refusal::answer(number).map(|()| SectorWrites::of(list))
     }
 
-    /// Frees a slot and overwrites its area with the filler, as long as [`Header::area_length`] says.
-    pub fn revoke(&mut self, slot: u8, filler: &[u8]) -> Result<(), Refusal> {
-        Refusal::answer(raw::revoke(self.image.as_mut(), slot, filler))
+    /// Frees a slot and overwrites its area with the filler, as long as [`Header::area_length`] says. The list buffer is as
+    /// long as [`Header::list_length`] says. Where the call is refused, image and buffer stay as they were.
+    ///
+    /// Where the writes were cut, the slot may still be enabled, and open with no passphrase: until the same call is given
+    /// again, it counts as another slot in use where another is revoked.
+    pub fn revoke<'l>(&mut self, slot: u8, filler: &[u8], list: &'l mut [u8]) -> Result<SectorWrites<'l>, Refusal> {
+        let number = raw::revoke(self.image.as_mut(), slot, filler, list);
+        Refusal::answer(number).map(|()| SectorWrites::of(list))
     }
 
     /// Enciphers and writes units of the payload; the buffer has 512 bytes for each.

@@ -3,6 +3,7 @@
 //! Whether a header is one is the engine's judgement, and what is said of the slots its answer. Key length, payload
 //! start, UUID and names are returned by no call: the binding reads them itself.
 use crate::slots::{Slot, SlotDetails};
+use crate::writes::ENTRY;
 use crate::{Hash, Profile, Refusal};
 
 /// Bytes of a sector and of a payload unit.
@@ -17,8 +18,8 @@ pub const MAGIC: [u8; 6] = *b"LUKS\xba\xbe";
 pub const MOST_STRIPES: u32 = 4000;
 
 const UUID: std::ops::Range<usize> = 168..208;
-const FIRST_RECORD: usize = 208;
-const RECORD: usize = 48;
+// The sectors that hold the header: 0 and 1.
+const HEADER_SECTORS: usize = 2;
 
 /// What a header says. There is one only of an image whose header passes the engine's check.
 #[derive(Clone, Copy, Debug, PartialEq, Eq)]
@@ -64,6 +65,17 @@ impl Header {
     pub fn area_length(&self, slot: u8) -> usize {
         self.slot(slot).map_or(0, |slot| slot.stripes as usize * self.key_bytes as usize)
     }
+
+    /// How long the list buffer of an addition to the slot, or of its revocation, must be: 516 bytes for each sector of the
+    /// area and for the two sectors of the header. 0 where there is no such slot.
+    pub fn list_length(&self, slot: u8) -> usize {
+        self.slot(slot).map_or(0, |_| (self.area_length(slot).div_ceil(SECTOR) + HEADER_SECTORS) * ENTRY)
+    }
+
+    /// How long the list buffer of a change must be: as long as those of both slots, whose stripes may differ.
+    pub fn change_list_length(&self, from: u8, to: u8) -> usize {
+        self.list_length(from) + self.list_length(to)
+    }
 }
 
 /// The names in a header as they stand there, each up to its first zero byte, and the length of the master key. Nothing
@@ -91,12 +103,6 @@ impl Names<'_> {
         let profile = Profile::of(hash, usize::try_from(self.key_bytes).ok()?);
         profile.filter(|_| self.cipher == b"aes" && self.mode == b"xts-plain64")
     }
-}
-
-/// Where the record of a slot, 1 to 8, stands in the header.
-pub fn record_range(slot: u8) -> std::ops::Range<usize> {
-    let at = FIRST_RECORD + RECORD * (usize::from(slot) - 1);
-    at..at + RECORD
 }
 
 // What stands before the first zero byte.

@@ -2,7 +2,8 @@
 //!
 //! A [`Drive`] stands over an image that its user lends; its methods are the engine's calls. Salts, random bytes and
 //! filler are the caller's. Keys and passphrases are [`Secret`]s, and [`lock_stack`] keeps the engine's own frames in
-//! memory.
+//! memory. What an addition, a change or a revocation has to write to the disk is its [`SectorWrites`], which a loss of power
+//! may cut anywhere.
 //!
 //! ```
 //! use mivrozh::{Drive, FormatInput, PayloadUnit, Profile, Secret, SlotInput};
@@ -13,7 +14,9 @@
 //! let mut drive = Drive::over(&mut image[..]);
 //! let uuid = "6a2b1f0e-3c4d-4e5f-8a9b-0c1d2e3f4a5b";
 //! drive.format(&FormatInput::new(Profile::Key512, &key, &salt, 1000, uuid).stripes(1))?;
-//! drive.add(1, &key, &SlotInput::new(&passphrase, &salt, 1000, &random))?;
+//! let mut list = vec![0; drive.header()?.list_length(1)];
+//! let writes = drive.add(1, &key, &SlotInput::new(&passphrase, &salt, 1000, &random), &mut list)?;
+//! assert!(writes.into_iter().map(|write| write.sector).eq([8, 1, 0])); // What goes to the disk, in this order.
 //! assert!(drive.slots()?.enabled().eq([1]));
 //! let opened = drive.open(&passphrase)?;
 //! assert_eq!(opened.slot, 1);
@@ -33,6 +36,7 @@ pub mod raw;
 mod refusal;
 mod secret;
 mod slots;
+mod writes;
 
 pub use drive::{Drive, FormatInput, Opened, PayloadUnit, SlotInput};
 pub use header::Header;
@@ -41,6 +45,7 @@ pub use profile::{Hash, Profile};
 pub use refusal::Refusal;
 pub use secret::Secret;
 pub use slots::{Slot, SlotDetails, Slots};
+pub use writes::{SectorWrite, SectorWrites};
 
 // The example in README.md compiles.
 #[cfg(doctest)]

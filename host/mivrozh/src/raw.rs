@@ -29,6 +29,8 @@ extern "C" {
         count: u32,
         random: *const u8,
         random_len: usize,
+        list: *mut u8,
+        list_len: usize,
     ) -> u8;
     fn mivrozh_open_slot(
         image: *const u8,
@@ -60,8 +62,18 @@ extern "C" {
         random_len: usize,
         filler: *const u8,
         filler_len: usize,
+        list: *mut u8,
+        list_len: usize,
     ) -> u8;
-    fn mivrozh_revoke(image: *mut u8, image_len: usize, slot: u8, filler: *const u8, filler_len: usize) -> u8;
+    fn mivrozh_revoke(
+        image: *mut u8,
+        image_len: usize,
+        slot: u8,
+        filler: *const u8,
+        filler_len: usize,
+        list: *mut u8,
+        list_len: usize,
+    ) -> u8;
     fn mivrozh_slots(image: *const u8, image_len: usize, enabled: *mut u8) -> u8;
     fn mivrozh_slot_details(
         image: *const u8,
@@ -116,6 +128,7 @@ pub fn format(image: &mut [u8], profile: u8, stripes: u32, key: &[u8], salt: &[u
     })
 }
 
+#[allow(clippy::too_many_arguments)]
 pub fn add(
     image: &mut [u8],
     slot: u8,
@@ -124,6 +137,7 @@ pub fn add(
     salt: &[u8; 32],
     count: u32,
     random: &[u8],
+    list: &mut [u8],
 ) -> u8 {
     // SAFETY: live, separate references with their lengths, as said above.
     then_wipe(|| unsafe {
@@ -139,6 +153,8 @@ pub fn add(
             count,
             random.as_ptr(),
             random.len(),
+            list.as_mut_ptr(),
+            list.len(),
         )
     })
 }
@@ -168,6 +184,7 @@ pub fn change(
     count: u32,
     random: &[u8],
     filler: &[u8],
+    list: &mut [u8],
 ) -> u8 {
     // SAFETY: live, separate references with their lengths, as said above.
     then_wipe(|| unsafe {
@@ -186,13 +203,25 @@ pub fn change(
             random.len(),
             filler.as_ptr(),
             filler.len(),
+            list.as_mut_ptr(),
+            list.len(),
         )
     })
 }
 
-pub fn revoke(image: &mut [u8], slot: u8, filler: &[u8]) -> u8 {
+pub fn revoke(image: &mut [u8], slot: u8, filler: &[u8], list: &mut [u8]) -> u8 {
     // SAFETY: live, separate references with their lengths, as said above.
-    then_wipe(|| unsafe { mivrozh_revoke(image.as_mut_ptr(), image.len(), slot, filler.as_ptr(), filler.len()) })
+    then_wipe(|| unsafe {
+        mivrozh_revoke(
+            image.as_mut_ptr(),
+            image.len(),
+            slot,
+            filler.as_ptr(),
+            filler.len(),
+            list.as_mut_ptr(),
+            list.len(),
+        )
+    })
 }
 
 pub fn slots(image: &[u8], enabled: &mut [u8; 8]) -> u8 {
@@ -253,8 +282,8 @@ pub fn write(image: &mut [u8], key: &[u8], first: u64, units: u64, buffer: &[u8]
 }
 
 /// A bound on the stack of a call, in bytes; `include/mivrozh.h` has the same. Measured by `tests/stack.rs` at 4,000
-/// stripes and a key of 64 bytes, the larger figure of both hashes: format 5,263, add 34,279, open by number 42,791,
-/// open 42,887, change 43,047, revoke 1,006, slots 1,006, slot details 1,358, read 33,607, write 33,607.
+/// stripes and a key of 64 bytes, the larger figure of both hashes: format 5,279, add 34,375, open by number 42,791,
+/// open 42,887, change 43,239, revoke 1,230, slots 1,006, slot details 1,358, read 33,623, write 33,623.
 pub const MOST_STACK: usize = 56 * 1024;
 
 /// How many bytes of stack are wiped after each call: as many, and 8 KiB for the frames around it.

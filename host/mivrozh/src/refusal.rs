@@ -127,7 +127,10 @@ impl Refusal {
             Refusal::BadRange => {
                 "the units lie outside the payload; use a smaller first unit or fewer units"
             }
-            Refusal::BadBuffer => "the buffer must have 512 bytes for each unit; give one of that length",
+            Refusal::BadBuffer => {
+                "the buffer must have 512 bytes for each unit that is read or written, or 516 for each write of the list \
+                 that a call gives; give one of exactly that length"
+            }
         }
     }
 }

@@ -73,6 +73,7 @@ fn the_header_is_for_cpp_too() {
             mivrozh_wipe_stack();\n\
             if (mivrozh_slots(nullptr, 0, enabled) != 1) return 1;\n\
             if (mivrozh_slot_details(nullptr, 0, enabled, counts, starts, stripes) != 1) return 1;\n\
+            if (mivrozh_revoke(nullptr, 0, 1, nullptr, 0, nullptr, 0) != 1) return 1;\n\
             return number == 1 ? 0 : 1;\n\
         }\n";
     std::fs::write(&source, text).expect("a file in the target folder");

@@ -19,6 +19,8 @@
 #include <valgrind/memcheck.h>
 
 enum { UNIT = 512, IMAGE = (2048 + 80) * UNIT, MOST_KEY = 64, MOST_AREA = 40 * UNIT, COUNT = 1000, MOST_UNITS = 70, CHECKSUM = 20 };
+/* A write of a list: the sector's number and its bytes. */
+enum { ENTRY = 4 + UNIT, MOST_LIST = 42 * ENTRY };
 /* The third is longer than a block of SHA-1 and of SHA-256, so HMAC takes its digest. */
 enum passphrase { FIRST, SECOND, THIRD, PASSPHRASES };
 
@@ -32,7 +34,7 @@ static size_t length;
 /* The secrets as they are; the copies of them that are lent to a call, and marked. */
 static uint8_t key[MOST_KEY], passphrases[PASSPHRASES][80], random_bytes[MOST_AREA], plain[MOST_UNITS * UNIT];
 static uint8_t lent_key[MOST_KEY], lent_old[80], lent_new[80], lent_random[MOST_AREA], lent_filler[MOST_AREA];
-static uint8_t image[IMAGE], salt[32], opened[66], buffer[MOST_UNITS * UNIT];
+static uint8_t image[IMAGE], salt[32], opened[66], buffer[MOST_UNITS * UNIT], list[2 * MOST_LIST];
 
 /* How many checksums the library has derived, and whether they stay secret. */
 static unsigned checksums, checksums_are_secret;
@@ -111,6 +113,31 @@ static uint8_t *area(unsigned slot) {
     return image + (size_t)be32(image + 208 + 48 * (slot - 1) + 40) * UNIT;
 }
 
+/* Bytes of a slot's area, and of the list of the work on it. */
+static size_t area_bytes(void) {
+    return stripes * length;
+}
+
+static size_t list_bytes(void) {
+    return ENTRY * ((area_bytes() + UNIT - 1) / UNIT + 2);
+}
+
+/*
+ * The list of the work on a slot, from this byte of the buffer on: the numbers of its sectors and the header are public, the area's
+ * bytes are marked. The list lies on the drive in the end, so it is declared public then.
+ */
+static void expect_list(size_t from, unsigned slot) {
+    size_t at = 0, sectors = (area_bytes() + UNIT - 1) / UNIT;
+    for (; at < sectors; at++) {
+        uint8_t *entry = list + from + at * ENTRY;
+        size_t rest = area_bytes() - at * UNIT;
+        must(is_public(entry, 4) && is_secret(entry + 4, rest < UNIT ? rest : UNIT), "the marks have gone to the list's area");
+        must(be32(entry) * (size_t)UNIT == (size_t)(area(slot) - image) + at * UNIT, "the sector of the area");
+    }
+    must(is_public(list + from + sectors * ENTRY, 2 * ENTRY), "the list's header comes from no secret");
+    declare_public(list + from, list_bytes());
+}
+
 /*
  * Around the library's PBKDF2, by valgrind. The arguments are what is made, its length, the hash, the passphrase, the salt, the count. What has
  * 20 bytes is the checksum of a key and is public: that of the drive's key stands in the header, and whether that of another differs is
@@ -136,8 +163,9 @@ static void format(void) {
 static void add(unsigned slot, enum passphrase which) {
     size_t many = (stripes - 1) * length;
     unsigned number = mivrozh_add(image, IMAGE, (uint8_t)slot, secret(lent_key, key, length), length, secret_passphrase(lent_new, which),
-                                  LENGTHS[which], salt, COUNT, secret(lent_random, random_bytes, many), many);
-    must(is_secret(area(slot), stripes * length), "the marks have gone to the area");
+                                  LENGTHS[which], salt, COUNT, secret(lent_random, random_bytes, many), many, list, list_bytes());
+    must(is_secret(area(slot), area_bytes()), "the marks have gone to the area");
+    expect_list(0, slot);
     declare_public(image, IMAGE);
     expect("add", number, 0);
 }
@@ -171,19 +199,23 @@ static void open_refused(enum passphrase which) {
 }
 
 static void change(unsigned from, enum passphrase old, unsigned to, enum passphrase new) {
-    size_t many = (stripes - 1) * length, all = stripes * length;
+    size_t many = (stripes - 1) * length, all = area_bytes();
     unsigned number = mivrozh_change(image, IMAGE, (uint8_t)from, secret_passphrase(lent_old, old), LENGTHS[old], (uint8_t)to,
                                      secret_passphrase(lent_new, new), LENGTHS[new], salt, COUNT,
-                                     secret(lent_random, random_bytes, many), many, secret(lent_filler, random_bytes, all), all);
+                                     secret(lent_random, random_bytes, many), many, secret(lent_filler, random_bytes, all), all,
+                                     list, 2 * list_bytes());
     must(is_secret(area(from), all) && is_secret(area(to), all), "the marks have gone to both areas");
+    expect_list(0, to);
+    expect_list(list_bytes(), from);
     declare_public(image, IMAGE);
     expect("change", number, 0);
 }
 
 static void revoke(unsigned slot) {
-    size_t all = stripes * length;
-    unsigned number = mivrozh_revoke(image, IMAGE, (uint8_t)slot, secret(lent_filler, random_bytes, all), all);
+    size_t all = area_bytes();
+    unsigned number = mivrozh_revoke(image, IMAGE, (uint8_t)slot, secret(lent_filler, random_bytes, all), all, list, list_bytes());
     must(is_secret(area(slot), all), "the marks of the filler have gone to the area");
+    expect_list(0, slot);
     declare_public(image, IMAGE);
     expect("revoke", number, 0);
 }
@@ -247,7 +279,7 @@ static void read_refused(void) {
 static void life_of_a_drive(unsigned which_profile, unsigned number_of_stripes) {
     static const size_t RUNS[] = {1, 3, 33, MOST_UNITS};
     profile = which_profile, stripes = number_of_stripes, length = which_profile % 2 ? 32 : 64, checksums = 0;
-    must(stripes * length <= MOST_AREA, "an area has room");
+    must(area_bytes() <= MOST_AREA && list_bytes() <= MOST_LIST, "an area has room, and a list");
     format();
     add(1, FIRST);
     add(2, SECOND);

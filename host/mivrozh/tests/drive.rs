@@ -1,6 +1,6 @@
 //! The safe binding: the calls on a drive, every refusal with its number and sentence.
 use mivrozh::header::Names;
-use mivrozh::{Drive, FormatInput, Hash, PayloadUnit, Profile, Refusal, Secret, SlotInput};
+use mivrozh::{Drive, FormatInput, Hash, Header, PayloadUnit, Profile, Refusal, Secret, SlotInput};
 
 const UUID: &str = "6a2b1f0e-3c4d-4e5f-8a9b-0c1d2e3f4a5b";
 const COUNT: u32 = 1000;
@@ -30,9 +30,14 @@ fn image(profile: Profile) -> Vec<u8> {
     let mut drive = Drive::over(&mut image);
     let key = key(profile);
     drive.format(&format_input(profile, &key)).expect("a drive");
-    let random = vec![5; drive.header().expect("a header").random_length(1)];
-    drive.add(1, &key, &slot_input(&passphrase("one"), &random)).expect("a passphrase");
+    let (random, mut list) = buffers(&drive.header().expect("a header"), 1);
+    let _ = drive.add(1, &key, &slot_input(&passphrase("one"), &random), &mut list).expect("a passphrase");
     image
+}
+
+// Random bytes for an addition to a slot, and its list buffer.
+fn buffers(header: &Header, slot: u8) -> (Vec<u8>, Vec<u8>) {
+    (vec![5; header.random_length(slot)], vec![0; header.list_length(slot)])
 }
 
 #[test]
@@ -46,15 +51,17 @@ fn the_life_of_a_drive() {
         assert_eq!(Names::of(drive.image()).and_then(|names| names.profile()), Some(profile));
         assert_eq!(header.uuid(), UUID.as_bytes());
         assert_eq!(drive.slots().expect("the slots").free(), Some(2));
-        let (random, filler) = (vec![6; header.random_length(7)], vec![7; header.area_length(1)]);
+        let (random, mut list) = buffers(&header, 7);
+        let (filler, mut both) = (vec![7; header.area_length(1)], vec![0; header.change_list_length(7, 3)]);
 
         let opened = drive.open(&passphrase("one")).expect("slot 1 opens");
         assert_eq!((opened.slot, opened.key.expose()), (1, key.expose()));
-        drive.add(7, &opened.key, &slot_input(&passphrase("two"), &random)).expect("slot 7 is free");
+        let _ = drive.add(7, &opened.key, &slot_input(&passphrase("two"), &random), &mut list).expect("slot 7 is free");
         assert_eq!(drive.open(&passphrase("two")).expect("slot 7 opens").slot, 7);
-        drive.change(7, &passphrase("two"), 3, &slot_input(&passphrase("three"), &random), &filler).expect("a change");
+        let (two, three) = (passphrase("two"), passphrase("three"));
+        let _ = drive.change(7, &two, 3, &slot_input(&three, &random), &filler, &mut both).expect("a change");
         assert_eq!(drive.open_slot(3, &passphrase("three")).expect("slot 3 opens").key.expose(), key.expose());
-        drive.revoke(1, &filler).expect("slot 3 is in use too");
+        let _ = drive.revoke(1, &filler, &mut list).expect("slot 3 is in use too");
         assert_eq!(drive.open(&passphrase("one")).err(), Some(Refusal::WrongKey));
         assert!(drive.slots().expect("the slots").enabled().eq([3]));
 
@@ -72,8 +79,9 @@ fn the_slots_are_shown() {
     for &profile in Profile::ALL {
         let (mut image, key) = (image(profile), key(profile));
         let mut drive = Drive::over(&mut image);
-        let random = vec![6; (STRIPES as usize - 1) * profile.key_bytes()];
-        drive.add(7, &key, &SlotInput::new(&passphrase("two"), &SALT, 1007, &random)).expect("slot 7 is free");
+        let (random, mut list) = buffers(&drive.header().expect("a header"), 7);
+        let two = passphrase("two");
+        let _ = drive.add(7, &key, &SlotInput::new(&two, &SALT, 1007, &random), &mut list).expect("slot 7 is free");
         let slots = drive.slots().expect("the slots");
         assert!(slots.enabled().eq([1, 7]));
         assert!((0..=255).filter(|&slot| slots.is_enabled(slot)).eq([1, 7]));
@@ -87,11 +95,11 @@ fn the_slots_are_shown() {
         for slot in 1..=8 {
             assert_eq!(details.slot(slot), header.slot(slot));
             assert_eq!(header.area_length(slot), STRIPES as usize * profile.key_bytes());
-            assert_eq!(header.random_length(slot), random.len());
+            assert_eq!(header.random_length(slot), (STRIPES as usize - 1) * profile.key_bytes());
         }
         for slot in [0, 9, 255] {
             assert_eq!(details.slot(slot), None);
-            assert_eq!((header.area_length(slot), header.random_length(slot)), (0, 0));
+            assert_eq!((header.area_length(slot), header.random_length(slot), header.list_length(slot)), (0, 0, 0));
         }
     }
 }
@@ -100,10 +108,11 @@ fn the_slots_are_shown() {
 fn no_slot_is_free_where_all_are_enabled() {
     let mut image = image(Profile::Key256);
     for slot in 2..=8 {
-        let random = [5; (STRIPES as usize - 1) * 32];
         let mut drive = Drive::over(&mut image);
+        let (random, mut list) = buffers(&drive.header().expect("a header"), slot);
         assert_eq!(drive.slots().expect("the slots").free(), Some(slot));
-        drive.add(slot, &key(Profile::Key256), &slot_input(&passphrase("more"), &random)).expect("a free slot");
+        let (key, more) = (key(Profile::Key256), passphrase("more"));
+        let _ = drive.add(slot, &key, &slot_input(&more, &random), &mut list).expect("a free slot");
     }
     let slots = Drive::over(&image[..]).slots().expect("the slots");
     assert!(slots.enabled().eq(1..=8));
@@ -215,9 +224,9 @@ fn refusals() {
     assert_eq!(drive.open_slot(9, &one).err(), Some(Refusal::BadSlot));
     assert_eq!(drive.open(&Secret::zeroed(513)).err(), Some(Refusal::BadPassphrase));
     assert_eq!(drive.open_slot(2, &one).err(), Some(Refusal::WrongState));
-    assert_eq!(drive.add(2, &key, &slot_input(&one, &[])), Err(Refusal::BadLength));
+    assert_eq!(drive.add(2, &key, &slot_input(&one, &[]), &mut []), Err(Refusal::BadLength));
     assert_eq!(drive.open(&passphrase("two")).err(), Some(Refusal::WrongKey));
-    assert_eq!(drive.revoke(1, &[]), Err(Refusal::LastSlot));
+    assert_eq!(drive.revoke(1, &[], &mut []), Err(Refusal::LastSlot));
     assert_eq!(drive.read(&key, PayloadUnit(u64::MAX), 1, &mut [0; 512]), Err(Refusal::BadRange));
     assert_eq!(drive.write(&key, PayloadUnit(0), 1, &[0; 511]), Err(Refusal::BadBuffer));
     assert_eq!(drive.write(&short, PayloadUnit(0), 0, &[]), Err(Refusal::KeyLength));

@@ -14,7 +14,7 @@
 
 enum { STACK = 512 * 1024, KEY = 64, STRIPES = 9, COUNT = 1000, UNITS = 40, IMAGE = (2048 + UNITS) * 512, PASSPHRASE = 64 };
 /* OWN: what the frame of the thread itself may take below its upper end. */
-enum { RANDOM = (STRIPES - 1) * KEY, FILLER = STRIPES * KEY, DERIVED = 20, PIECE = 8, OWN = 256 };
+enum { RANDOM = (STRIPES - 1) * KEY, FILLER = STRIPES * KEY, LIST = 4 * 516, DERIVED = 20, PIECE = 8, OWN = 256 };
 enum call { FORMAT, ADD, OPEN_SLOT, OPEN, CHANGE, READ, WRITE, CALLS };
 
 static const char *const NAMES[CALLS] = {"format", "add", "open_slot", "open", "change", "read", "write"};
@@ -22,7 +22,7 @@ static const uint8_t UUID[] = "6a2b1f0e-3c4d-4e5f-8a9b-0c1d2e3f4a5b";
 
 /* No argument of a call stands on the stack. */
 static uint8_t image[IMAGE], key[KEY], passphrase[PASSPHRASE], salt[32], random_bytes[RANDOM], filler[FILLER];
-static uint8_t buffer[UNITS * 512], opened[66], derived[DERIVED];
+static uint8_t buffer[UNITS * 512], opened[66], derived[DERIVED], list[2 * LIST];
 static uint8_t *stack;
 static const uint8_t *frame;
 
@@ -52,12 +52,13 @@ static void fill(uint8_t *bytes, size_t length, uint64_t seed) {
 static int make(enum call which) {
     switch (which) {
     case FORMAT: return mivrozh_format(image, IMAGE, profile, STRIPES, key, KEY, salt, COUNT, UUID, 36);
-    case ADD: return mivrozh_add(image, IMAGE, 2, key, KEY, passphrase, PASSPHRASE, salt, COUNT, random_bytes, RANDOM);
+    case ADD:
+        return mivrozh_add(image, IMAGE, 2, key, KEY, passphrase, PASSPHRASE, salt, COUNT, random_bytes, RANDOM, list, LIST);
     case OPEN_SLOT: return mivrozh_open_slot(image, IMAGE, 1, passphrase, PASSPHRASE, opened);
     case OPEN: return mivrozh_open(image, IMAGE, passphrase, PASSPHRASE, opened);
     case CHANGE:
         return mivrozh_change(image, IMAGE, 1, passphrase, PASSPHRASE, 3, filler, 20, salt, COUNT, random_bytes, RANDOM,
-                              filler, FILLER);
+                              filler, FILLER, list, 2 * LIST);
     case READ: return mivrozh_read(image, IMAGE, key, KEY, 0, UNITS, buffer, sizeof buffer);
     default: return mivrozh_write(image, IMAGE, key, KEY, 0, UNITS, buffer, sizeof buffer);
     }
@@ -105,7 +106,7 @@ static struct left left_by(enum call which, int with_wiping) {
     pthread_t id;
     struct left found;
     must(make(FORMAT) == 0, "a drive is made");
-    must(mivrozh_add(image, IMAGE, 1, key, KEY, passphrase, PASSPHRASE, salt, COUNT, random_bytes, RANDOM) == 0, "slot 1");
+    must(mivrozh_add(image, IMAGE, 1, key, KEY, passphrase, PASSPHRASE, salt, COUNT, random_bytes, RANDOM, list, LIST) == 0, "slot 1");
     memset(stack, 0, STACK);
     call = which, wipes = with_wiping, number = 255, done = 0, released = 0;
     must(pthread_attr_init(&attributes) == 0 && pthread_attr_setstack(&attributes, stack, STACK) == 0, "a stack");

@@ -14,6 +14,8 @@ const LENGTH: usize = 64;
 const UNITS: usize = 40;
 const IMAGE: usize = (4096 + UNITS) * 512;
 const COUNT: u32 = 1000;
+// Each sector of an area and the two of the header, with its number.
+const LIST: usize = (STRIPES as usize * LENGTH).div_ceil(512) * 516 + 2 * 516;
 const UUID: &[u8; 36] = b"6a2b1f0e-3c4d-4e5f-8a9b-0c1d2e3f4a5b";
 
 // What a user must have for a call.
@@ -37,6 +39,8 @@ extern "C" {
         c: u32,
         r: In,
         rl: usize,
+        l: Out,
+        ll: usize,
     ) -> u8;
     fn mivrozh_open_slot(i: In, il: usize, at: u8, p: In, pl: usize, opened: Out) -> u8;
     fn mivrozh_open(i: In, il: usize, p: In, pl: usize, opened: Out) -> u8;
@@ -56,8 +60,10 @@ extern "C" {
         rl: usize,
         f: In,
         fl: usize,
+        l: Out,
+        ll: usize,
     ) -> u8;
-    fn mivrozh_revoke(i: Out, il: usize, at: u8, f: In, fl: usize) -> u8;
+    fn mivrozh_revoke(i: Out, il: usize, at: u8, f: In, fl: usize, l: Out, ll: usize) -> u8;
     fn mivrozh_slots(i: In, il: usize, enabled: Out) -> u8;
     fn mivrozh_slot_details(i: In, il: usize, enabled: Out, c: *mut u32, starts: *mut u32, n: *mut u32) -> u8;
     fn mivrozh_read(i: In, il: usize, k: In, kl: usize, first: u64, units: u64, b: Out, bl: usize) -> u8;
@@ -116,6 +122,9 @@ struct Scene {
     salt: Box<[u8; 32]>,
     random: Vec<u8>,
     filler: Vec<u8>,
+    // For the list of an addition or a revocation, and twice as long for a change.
+    list: Vec<u8>,
+    lists: Vec<u8>,
     buffer: Vec<u8>,
     opened: Box<[u8; 66]>,
     enabled: Box<[u8; 8]>,
@@ -134,15 +143,17 @@ impl Scene {
             salt: Box::new(bytes(4, 32).try_into().expect("32 bytes")),
             random: bytes(5, (STRIPES as usize - 1) * LENGTH),
             filler: bytes(6, STRIPES as usize * LENGTH),
+            list: vec![0; LIST],
+            lists: vec![0; 2 * LIST],
             buffer: bytes(7, UNITS * 512),
             opened: Box::new([0; 66]),
             enabled: Box::new([0; 8]),
             details: Box::new([[0; 8]; 3]),
         };
         assert_eq!(scene.bound(Call::Format), 0);
-        let Scene { image, key, first, last, salt, random, .. } = &mut scene;
-        assert_eq!(raw::add(image, 1, key, first, salt, COUNT, random), 0);
-        assert_eq!(raw::add(image, 8, key, last, salt, COUNT, random), 0);
+        let Scene { image, key, first, last, salt, random, list, .. } = &mut scene;
+        assert_eq!(raw::add(image, 1, key, first, salt, COUNT, random, list), 0);
+        assert_eq!(raw::add(image, 8, key, last, salt, COUNT, random, list), 0);
         scene
     }
 
@@ -156,16 +167,17 @@ impl Scene {
 
     // The call through the binding.
     fn bound(&mut self, call: Call) -> u8 {
-        let Scene { profile, image, key, first, last, salt, random, filler, buffer, opened, enabled, details } = self;
+        let Scene { profile, image, key, first, last, salt, random, filler, list, lists, .. } = self;
+        let Scene { buffer, opened, enabled, details, .. } = self;
         let [counts, starts, stripes] = &mut **details;
         let units = UNITS as u64;
         match call {
             Call::Format => raw::format(image, *profile, STRIPES, key, salt, COUNT, UUID),
-            Call::Add => raw::add(image, 2, key, last, salt, COUNT, random),
+            Call::Add => raw::add(image, 2, key, last, salt, COUNT, random, list),
             Call::OpenSlot => raw::open_slot(image, 8, last, opened),
             Call::Open => raw::open(image, last, opened),
-            Call::Change => raw::change(image, 8, last, 3, first, salt, COUNT, random, filler),
-            Call::Revoke => raw::revoke(image, 1, filler),
+            Call::Change => raw::change(image, 8, last, 3, first, salt, COUNT, random, filler, lists),
+            Call::Revoke => raw::revoke(image, 1, filler, list),
             Call::Slots => raw::slots(image, enabled),
             Call::SlotDetails => raw::slot_details(image, enabled, counts, starts, stripes),
             Call::Read => raw::read(image, key, 0, units, buffer),
@@ -176,20 +188,23 @@ impl Scene {
     // The same call without the binding.
     #[rustfmt::skip]
     fn bare(&mut self, call: Call) -> u8 {
-        let Scene { profile, image, key, first, last, salt, random, filler, buffer, opened, enabled, details } = self;
+        let Scene { profile, image, key, first, last, salt, random, filler, list, lists, .. } = self;
+        let Scene { buffer, opened, enabled, details, .. } = self;
         let (e, d) = (enabled.as_mut_ptr(), details.each_mut().map(|array| array.as_mut_ptr()));
         let (i, il, units) = (image.as_mut_ptr(), image.len(), UNITS as u64);
         let (k, kl, s, r, rl) = (key.as_ptr(), key.len(), salt.as_ptr(), random.as_ptr(), random.len());
         let (p, pl, f, fl) = (last.as_ptr(), last.len(), filler.as_ptr(), filler.len());
+        let (q, ql) = (first.as_ptr(), first.len());
+        let ([l, both], [ll, bothl]) = ([list.as_mut_ptr(), lists.as_mut_ptr()], [list.len(), lists.len()]);
         // SAFETY: all pointers are into live, separate buffers of the scene, with their lengths.
         unsafe {
             match call {
                 Call::Format => mivrozh_format(i, il, *profile, STRIPES, k, kl, s, COUNT, UUID.as_ptr(), UUID.len()),
-                Call::Add => mivrozh_add(i, il, 2, k, kl, p, pl, s, COUNT, r, rl),
+                Call::Add => mivrozh_add(i, il, 2, k, kl, p, pl, s, COUNT, r, rl, l, ll),
                 Call::OpenSlot => mivrozh_open_slot(i, il, 8, p, pl, opened.as_mut_ptr()),
                 Call::Open => mivrozh_open(i, il, p, pl, opened.as_mut_ptr()),
-                Call::Change => mivrozh_change(i, il, 8, p, pl, 3, first.as_ptr(), first.len(), s, COUNT, r, rl, f, fl),
-                Call::Revoke => mivrozh_revoke(i, il, 1, f, fl),
+                Call::Change => mivrozh_change(i, il, 8, p, pl, 3, q, ql, s, COUNT, r, rl, f, fl, both, bothl),
+                Call::Revoke => mivrozh_revoke(i, il, 1, f, fl, l, ll),
                 Call::Slots => mivrozh_slots(i, il, e),
                 Call::SlotDetails => mivrozh_slot_details(i, il, e, d[0], d[1], d[2]),
                 Call::Read => mivrozh_read(i, il, k, kl, 0, units, buffer.as_mut_ptr(), buffer.len()),

@@ -2,9 +2,11 @@
 
 use crate::header::{self, at, put, put_number, Header, Profile, Slot, DISABLED};
 use crate::slots::{empty, Derivations};
+use crate::writes;
 use crate::xts::{self, Way, SECTOR};
 
-/// A call with its arguments, other than the image.
+/// A call with its arguments, other than the image. `list`, and the `buffer` of a read, are what the lent buffer holds
+/// before.
 #[derive(Clone, Debug, PartialEq)]
 pub enum Call {
     Format {
@@ -22,6 +24,7 @@ pub enum Call {
         salt: [u8; 32],
         count: u32,
         random: Vec<u8>,
+        list: Vec<u8>,
     },
     OpenSlot {
         slot: u8,
@@ -39,12 +42,13 @@ pub enum Call {
         count: u32,
         random: Vec<u8>,
         filler: Vec<u8>,
+        list: Vec<u8>,
     },
     Revoke {
         slot: u8,
         filler: Vec<u8>,
+        list: Vec<u8>,
     },
-    /// `buffer` is what the lent buffer holds before.
     Read {
         key: Vec<u8>,
         first: u64,
@@ -75,6 +79,23 @@ impl Call {
             Call::Write { .. } => 7,
         }
     }
+
+    /// What the buffer that the call may write holds before: nothing where it is lent none.
+    pub fn lent(&self) -> &[u8] {
+        match self {
+            Call::Add { list, .. } | Call::Change { list, .. } | Call::Revoke { list, .. } => list,
+            Call::Read { buffer, .. } => buffer,
+            _ => &[],
+        }
+    }
+
+    /// Lends an add, a change or a revoke another list buffer.
+    pub fn lend_list(&mut self, bytes: Vec<u8>) {
+        match self {
+            Call::Add { list, .. } | Call::Change { list, .. } | Call::Revoke { list, .. } => *list = bytes,
+            _ => panic!("the call has no list"),
+        }
+    }
 }
 
 /// What a call gives.
@@ -84,7 +105,7 @@ pub struct Outcome {
     pub number: u8,
     /// Of an opening: slot, key length, the key and zeros to 64 bytes; all zero when refused, and for other calls.
     pub opened: [u8; 66],
-    /// Of a read: the lent buffer afterwards.
+    /// The lent buffer afterwards: of an add, change or revoke its list, of a read what was read.
     pub buffer: Vec<u8>,
     pub image: Vec<u8>,
 }
@@ -114,6 +135,11 @@ fn bad_uuid(uuid: &[u8]) -> bool {
 /// Check 16 refuses these bytes: they are not so many stripes.
 fn not_stripes(bytes: &[u8], stripes: u32, key_bytes: u32) -> bool {
     bytes.len() as u128 != stripes as u128 * key_bytes as u128
+}
+
+/// Check 20 refuses this buffer: it is not exactly as long as the lists of the work on these slots.
+fn not_list(list: &[u8], slots: &[&Slot], key_bytes: u32) -> bool {
+    list.len() as u128 != slots.iter().map(|slot| writes::length(slot, key_bytes)).sum()
 }
 
 /// The units of the payload: none where it begins beyond the image.
@@ -164,16 +190,7 @@ impl Model {
         let hashed = h.hash().is_some();
         match call {
             Call::Format { .. } => unreachable!("judged above"),
-            Call::Add { slot, key, passphrase, count, random, .. } => {
-                let record = h.slot(*slot);
-                f.check(13, || record.is_none());
-                f.check(15, || record.is_some_and(Slot::enabled));
-                f.check(9, || key.len() != h.key_bytes as usize);
-                f.check(14, || bad_passphrase(passphrase));
-                f.check(10, || *count < header::SMALLEST_COUNT);
-                f.check(16, || record.is_some_and(|s| not_stripes(random, s.stripes.saturating_sub(1), h.key_bytes)));
-                f.check(17, || hashed && !d.has_checksum(&h, key));
-            }
+            Call::Add { .. } => add_checks(&mut f, d, &h, call),
             Call::OpenSlot { slot, passphrase } => {
                 let record = h.slot(*slot);
                 f.check(13, || record.is_none());
@@ -185,26 +202,8 @@ impl Model {
                 f.check(14, || bad_passphrase(passphrase));
                 f.check(17, || hashed && search(d, image, &h, passphrase).is_none());
             }
-            Call::Change { from, old, to, new, count, random, filler, .. } => {
-                let (first, second) = (h.slot(*from), h.slot(*to));
-                f.check(13, || first.is_none() || second.is_none());
-                f.check(15, || first.is_some_and(|s| !s.enabled()) || second.is_some_and(Slot::enabled));
-                f.check(14, || bad_passphrase(old) || bad_passphrase(new));
-                f.check(10, || *count < header::SMALLEST_COUNT);
-                f.check(16, || {
-                    second.is_some_and(|s| not_stripes(random, s.stripes.saturating_sub(1), h.key_bytes))
-                        || first.is_some_and(|s| not_stripes(filler, s.stripes, h.key_bytes))
-                });
-                f.check(17, || hashed && first.is_some_and(|s| d.candidate(image, &h, s, old).is_none()));
-            }
-            Call::Revoke { slot, filler } => {
-                let record = h.slot(*slot);
-                let another = || (1..=8).any(|k| k != *slot && h.slot(k).is_some_and(Slot::enabled));
-                f.check(13, || record.is_none());
-                f.check(15, || record.is_some_and(|s| !s.enabled()));
-                f.check(18, || record.is_some() && !another());
-                f.check(16, || record.is_some_and(|s| not_stripes(filler, s.stripes, h.key_bytes)));
-            }
+            Call::Change { .. } => change_checks(&mut f, d, image, &h, call),
+            Call::Revoke { .. } => revoke_checks(&mut f, &h, call),
             Call::Read { key, first, units, buffer } | Call::Write { key, first, units, buffer } => {
                 let payload = payload_units(&h, image.len()) as u128;
                 f.check(9, || key.len() != h.key_bytes as usize);
@@ -218,9 +217,8 @@ impl Model {
 
     /// The call's outcome. A refused call alters nothing.
     pub fn step(&mut self, image: &[u8], call: &Call) -> Outcome {
-        let buffer = if let Call::Read { buffer, .. } = call { buffer.clone() } else { Vec::new() };
         let number = self.number(image, call);
-        let mut out = Outcome { number, opened: [0; 66], buffer, image: image.to_vec() };
+        let mut out = Outcome { number, opened: [0; 66], buffer: call.lent().to_vec(), image: image.to_vec() };
         if number == 0 {
             self.accept(&mut out, call);
         }
@@ -231,11 +229,11 @@ impl Model {
     fn accept(&mut self, out: &mut Outcome, call: &Call) {
         let h = Header::read(&out.image);
         let d = &mut self.derivations;
-        let payload = h.payload as u64;
         match call {
             Call::Format { .. } => format(d, &mut out.image, call, self.alignment),
-            Call::Add { slot, key, passphrase, salt, count, random } => {
+            Call::Add { slot, key, passphrase, salt, count, random, .. } => {
                 d.fill(&mut out.image, *slot, key, passphrase, salt, *count, random);
+                out.buffer = list_of(&out.image, *slot);
             }
             Call::OpenSlot { slot, passphrase } => {
                 let record = &h.slots[*slot as usize - 1];
@@ -246,26 +244,38 @@ impl Model {
                 let (slot, key) = search(d, &out.image, &h, passphrase).expect("check 17 passed");
                 out.opened = answer(slot, &key);
             }
-            Call::Change { from, old, to, new, salt, count, random, filler } => {
+            Call::Change { from, old, to, new, salt, count, random, filler, .. } => {
                 let record = &h.slots[*from as usize - 1];
                 let key = d.candidate(&out.image, &h, record, old).expect("check 17 passed");
                 d.fill(&mut out.image, *to, &key, new, salt, *count, random);
+                out.buffer = list_of(&out.image, *to);
                 empty(&mut out.image, *from, filler);
+                out.buffer.extend(list_of(&out.image, *from));
             }
-            Call::Revoke { slot, filler } => empty(&mut out.image, *slot, filler),
-            Call::Read { key, first, .. } => {
-                let begin = (payload + first) as usize * SECTOR;
-                let length = out.buffer.len();
-                out.buffer.copy_from_slice(&out.image[begin..begin + length]);
-                xts::run(key, *first, &mut out.buffer, Way::Decipher);
+            Call::Revoke { slot, filler, .. } => {
+                empty(&mut out.image, *slot, filler);
+                out.buffer = list_of(&out.image, *slot);
             }
-            Call::Write { key, first, buffer, .. } => {
-                let begin = (payload + first) as usize * SECTOR;
-                let sectors = &mut out.image[begin..begin + buffer.len()];
-                sectors.copy_from_slice(buffer);
-                xts::run(key, *first, sectors, Way::Encipher);
-            }
+            Call::Read { .. } | Call::Write { .. } => transfer(out, &h, call),
         }
+    }
+}
+
+/// An accepted read or write.
+fn transfer(out: &mut Outcome, h: &Header, call: &Call) {
+    match call {
+        Call::Read { key, first, buffer, .. } => {
+            let begin = (h.payload as u64 + first) as usize * SECTOR;
+            out.buffer.copy_from_slice(&out.image[begin..begin + buffer.len()]);
+            xts::run(key, *first, &mut out.buffer, Way::Decipher);
+        }
+        Call::Write { key, first, buffer, .. } => {
+            let begin = (h.payload as u64 + first) as usize * SECTOR;
+            let sectors = &mut out.image[begin..begin + buffer.len()];
+            sectors.copy_from_slice(buffer);
+            xts::run(key, *first, sectors, Way::Encipher);
+        }
+        _ => unreachable!("a read or a write"),
     }
 }
 
@@ -280,6 +290,45 @@ fn format_checks(f: &mut Findings, image_len: usize, call: &Call, alignment: u64
     f.check(10, || length.is_some() && *count < header::SMALLEST_COUNT);
     f.check(11, || bad_uuid(uuid));
     f.check(12, || length.is_some_and(|l| (image_len as u64) < payload(l)));
+}
+
+fn add_checks(f: &mut Findings, d: &mut Derivations, h: &Header, call: &Call) {
+    let Call::Add { slot, key, passphrase, count, random, list, .. } = call else { unreachable!("an add") };
+    let record = h.slot(*slot);
+    f.check(13, || record.is_none());
+    f.check(15, || record.is_some_and(Slot::enabled));
+    f.check(9, || key.len() != h.key_bytes as usize);
+    f.check(14, || bad_passphrase(passphrase));
+    f.check(10, || *count < header::SMALLEST_COUNT);
+    f.check(16, || record.is_some_and(|s| not_stripes(random, s.stripes.saturating_sub(1), h.key_bytes)));
+    f.check(20, || record.is_some_and(|s| not_list(list, &[s], h.key_bytes)));
+    f.check(17, || h.hash().is_some() && !d.has_checksum(h, key));
+}
+
+fn change_checks(f: &mut Findings, d: &mut Derivations, image: &[u8], h: &Header, call: &Call) {
+    let Call::Change { from, old, to, new, count, random, filler, list, .. } = call else { unreachable!("a change") };
+    let (first, second) = (h.slot(*from), h.slot(*to));
+    f.check(13, || first.is_none() || second.is_none());
+    f.check(15, || first.is_some_and(|s| !s.enabled()) || second.is_some_and(Slot::enabled));
+    f.check(14, || bad_passphrase(old) || bad_passphrase(new));
+    f.check(10, || *count < header::SMALLEST_COUNT);
+    f.check(16, || {
+        second.is_some_and(|s| not_stripes(random, s.stripes.saturating_sub(1), h.key_bytes))
+            || first.is_some_and(|s| not_stripes(filler, s.stripes, h.key_bytes))
+    });
+    f.check(20, || first.zip(second).is_some_and(|(s, t)| not_list(list, &[s, t], h.key_bytes)));
+    f.check(17, || h.hash().is_some() && first.is_some_and(|s| d.candidate(image, h, s, old).is_none()));
+}
+
+fn revoke_checks(f: &mut Findings, h: &Header, call: &Call) {
+    let Call::Revoke { slot, filler, list } = call else { unreachable!("a revoke") };
+    let record = h.slot(*slot);
+    let another = || (1..=8).any(|k| k != *slot && h.slot(k).is_some_and(Slot::enabled));
+    f.check(13, || record.is_none());
+    f.check(15, || record.is_some_and(|s| !s.enabled()));
+    f.check(18, || record.is_some() && !another());
+    f.check(16, || record.is_some_and(|s| not_stripes(filler, s.stripes, h.key_bytes)));
+    f.check(20, || record.is_some_and(|s| not_list(list, &[s], h.key_bytes)));
 }
 
 /// Zeroes everything before the payload, then writes the header.
@@ -309,6 +358,12 @@ fn format(d: &mut Derivations, image: &mut [u8], call: &Call, alignment: u64) {
 fn search(d: &mut Derivations, image: &[u8], h: &Header, passphrase: &[u8]) -> Option<(u8, Vec<u8>)> {
     let enabled = (1..).zip(&h.slots).filter(|(_, slot)| slot.enabled());
     enabled.into_iter().find_map(|(k, slot)| d.candidate(image, h, slot, passphrase).map(|key| (k, key)))
+}
+
+/// The list of the work on slot k, as it stands in the buffer, by the image after that work.
+fn list_of(image: &[u8], k: u8) -> Vec<u8> {
+    let h = Header::read(image);
+    writes::encoded(&writes::of_slot(image, &h.slots[k as usize - 1], h.key_bytes))
 }
 
 fn answer(slot: u8, key: &[u8]) -> [u8; 66] {
@@ -360,11 +415,11 @@ mod tests {
         let (old, new) = (b"old".to_vec(), b"new".to_vec());
         let (number, uuid) = (profile.number, vec![b'u'; 36]);
         step(Call::Format { profile: number, stripes: 3, key: key.clone(), salt, count: 1000, uuid });
-        let (random, passphrase) = (vec![1; 2 * length], old.clone());
-        step(Call::Add { slot: 7, key: key.clone(), passphrase, salt, count: 1000, random });
-        let (random, filler) = (vec![2; 2 * length], vec![3; 3 * length]);
-        let change =
-            Call::Change { from: 7, old: old.clone(), to: 2, new: new.clone(), salt, count: 1000, random, filler };
+        let (random, passphrase, list) = (vec![1; 2 * length], old.clone(), vec![0; 3 * writes::ENTRY]);
+        step(Call::Add { slot: 7, key: key.clone(), passphrase, salt, count: 1000, random, list });
+        let (random, filler, list) = (vec![2; 2 * length], vec![3; 3 * length], vec![0; 6 * writes::ENTRY]);
+        let (old_one, new_one, count) = (old.clone(), new.clone(), 1000);
+        let change = Call::Change { from: 7, old: old_one, to: 2, new: new_one, salt, count, random, filler, list };
         assert_eq!(step(change).number, 0);
         assert_eq!(step(Call::Open { passphrase: old }).number, 17);
         let opened = step(Call::Open { passphrase: new }).opened;

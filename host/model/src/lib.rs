@@ -13,6 +13,7 @@ pub mod sha1;
 pub mod sha256;
 pub mod slots;
 pub mod splitter;
+pub mod writes;
 pub mod xts;
 
 pub use calls::{Call, Model, Outcome};

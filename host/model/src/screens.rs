@@ -54,6 +54,7 @@ pub fn second(image: &[u8]) -> Second {
 mod tests {
     use super::*;
     use crate::header::{at, put_number};
+    use crate::writes::ENTRY;
     use crate::xts::SECTOR;
     use crate::{Call, Model};
 
@@ -71,7 +72,8 @@ mod tests {
         let mut model = Model::default();
         let image = fresh(&mut model);
         let (key, passphrase, random) = (vec![5; 32], b"one".to_vec(), vec![7; 15 * 32]);
-        let out = model.step(&image, &Call::Add { slot: 3, key, passphrase, salt: [8; 32], count: 1003, random });
+        let (salt, count, list) = ([8; 32], 1003, vec![0; 3 * ENTRY]);
+        let out = model.step(&image, &Call::Add { slot: 3, key, passphrase, salt, count, random, list });
         assert_eq!(out.number, 0);
         out.image
     }

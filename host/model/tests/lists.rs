@@ -12,7 +12,7 @@ fn lists(arguments: &[&str]) -> (bool, String) {
 fn library_and_model_agree() {
     let (well, said) = lists(&["--calls", "1000", "--seed", "20"]);
     assert!(well, "{said}");
-    assert!(said.contains("images agree"), "{said}");
+    assert!(said.contains("images agree") && said.contains("lists of sector writes that were cut"), "{said}");
 }
 
 #[test]

@@ -50,7 +50,9 @@ fn calls() -> Vec<Call> {
     let format = Call::Format { profile: 1, stripes: STRIPES, key: key(), salt: salt(0), count: COUNT, uuid };
     let adds = SLOTS.map(|(slot, passphrase)| {
         let passphrase = passphrase.as_bytes().to_vec();
-        Call::Add { slot, key: key(), passphrase, salt: salt(slot), count: COUNT, random: random(slot) }
+        // The area's 480 bytes are one sector: three writes.
+        let (random, list) = (random(slot), vec![0; 3 * model::writes::ENTRY]);
+        Call::Add { slot, key: key(), passphrase, salt: salt(slot), count: COUNT, random, list }
     });
     let write = Call::Write { key: key(), first: 0, units: UNITS, buffer: plain() };
     std::iter::once(format).chain(adds).chain([write]).collect()

@@ -1,6 +1,8 @@
 -- `adding::add` meets its contract: each place knows which checks have passed, and each return is the rules' step.
-use mathlib.Core.Path.{_≡_, sym, _∙_}
+use mathlib.Core.Path.{_≡_, sym, ap, _∙_}
+use mathlib.Core.Logic.{_≢_}
 use mathlib.Core.List.{List}
+use Prim.Native.Nat.{ℕ}
 use native.Mathlib.Omega.{arith}
 use lib.ListN.{length}
 use borrow.Author.Tests.{eqb-true}
@@ -9,18 +11,21 @@ use Rattle.octets.proofs.BoolLaws.{holds, fails}
 use Rattle.rules.specs.Checks.{Check, first}
 use Rattle.rules.specs.Facts.{Facts, slotInput}
 use Rattle.rules.specs.Calls.{Call, add, keyOk, earlyChecks, lateChecks, done, answer}
+use Rattle.rules.specs.Sectors.{encoded, slotList}
 use Rattle.rules.specs.Step.{writes}
+use Rattle.rules.specs.Lists.{listOf}
 use Rattle.rules.proofs.ChecksLaws.{Pass, accepted, refused-by, first-pass}
-use Rattle.rules.proofs.StepLaws.{numbered-early, step-header, step-early, step-late, step-accepted, does-refused, does-accepted}
+use Rattle.rules.proofs.StepLaws.{numbered-early, step-header, step-early, step-late, step-accepted, lists-refused, lists-accepted}
 use Rattle.profiles.specs.Suites.{built}
 use Rattle.header.specs.Refusals.{number}
 use Rattle.header.specs.Records.{factsIn, HeaderOk}
 use Rattle.header.proofs.SoundLaws.{sound}
+use Rattle.sectors.proofs.ListLaws.{area-within, list-room, list-filled}
 use Rattle.adding.proofs.add.Statement.{statement}
 use Rattle.adding.proofs.add.Tie as tie
 
 abbrev called : tie.Start → Call
-called s = let a = s .args in add (a .slot) (a .key .now) (slotInput (a .passphrase .now) (a .salt .now) (a .count) (a .random .now))
+called s = let a = s .args in add (a .slot) (a .key .now) (slotInput (a .passphrase .now) (a .salt .now) (a .count) (a .random .now)) (a .list .now)
 
 abbrev facts : tie.Start → Facts
 facts s = factsIn (s .args .image .now)
@@ -34,7 +39,7 @@ late s = lateChecks (facts s) (called s)
 -- ---- where the header is accepted
 
 abbrev start₁ : tie.After-number-of → tie.Start
-start₁ c = c .before .before .before .before .before .before .before
+start₁ c = c .before .before .before .before .before .before .before .before
 
 header-ok : (c : tie.Else1) → HeaderOk (start₁ (c .before) .args .image .now)
 header-ok c = sym (c .before .before .header-check .ensures) ∙ sym (c .before .number-of .ensures) ∙ c .if1 .left
@@ -42,7 +47,7 @@ header-ok c = sym (c .before .before .header-check .ensures) ∙ sym (c .before 
 -- ---- where the early checks have passed
 
 abbrev checked : tie.After-number-of2 → tie.Else1
-checked c = c .before .before .before
+checked c = c .before .before .before .before
 
 abbrev start₂ : tie.After-number-of2 → tie.Start
 start₂ c = start₁ (checked c .before)
@@ -72,20 +77,22 @@ late-zero c =
 returns : tie.Need-returns
 returns c =
     let s = start₁ (c .before) in
+    let m = s .args .image .now in
     let h = c .before .before .header-check in
-    does-refused built (s .args .image .now) (called s) (number (h .result))
-    (step-header built (s .args .image .now) (called s) (number (h .result)) (λ q. c .if1 .taken (c .before .number-of .ensures ∙ q)) (h .ensures))
+    let z : number (h .result) ≢ 0 = λ q. c .if1 .taken (c .before .number-of .ensures ∙ q) in
+    lists-refused built m (called s) (number (h .result)) z (s .args .list .now) (step-header built m (called s) (number (h .result)) z (h .ensures))
 
 add-check-requires : tie.Need-add-check-requires
-add-check-requires c κs = header-ok (c .before)
+add-check-requires c κs = header-ok (c .before .before)
 
 returns-2 : tie.Need-returns-2
 returns-2 c =
     let s = start₂ (c .before) in
     let m = s .args .image .now in
     let r = c .before .before .add-check in
-    does-refused built m (called s) (number (r .result))
-    (step-early built m (called s) (header-ok (checked (c .before))) (number (r .result)) (λ q. c .if2 .taken (c .before .number-of2 .ensures ∙ q)) (r .ensures (s .args .salt .now)))
+    let z : number (r .result) ≢ 0 = λ q. c .if2 .taken (c .before .number-of2 .ensures ∙ q) in
+    lists-refused built m (called s) (number (r .result)) z (s .args .list .now)
+    (step-early built m (called s) (header-ok (checked (c .before))) (number (r .result)) z (r .ensures (s .args .salt .now)))
 
 key-matches-requires : tie.Need-key-matches-requires
 unfolding earlyChecks keyOk
@@ -102,26 +109,67 @@ returns-3 c =
     let s = start₃ (c .before) in
     let m = s .args .image .now in
     let t = c .before .key-matches in
-    does-refused built m (called s) 17
+    lists-refused built m (called s) 17 (λ q. omega arith) (s .args .list .now)
     (step-late built m (called s) (header-ok (checked (e .before))) (early-zero e) 17 (λ q. omega arith)
     (refused-by (late s) 0 tt (fails (t .ensures) (c .if3 .taken))))
+
+-- ---- where the slot is enabled
+
+abbrev placed : tie.After-enable-slot → tie.After-area-of
+placed c = c .before .before
+
+abbrev matched : tie.After-area-of → tie.Else3
+matched c = c .before .before
+
+abbrev start₄ : tie.After-enable-slot → tie.Start
+start₄ c = start₃ (matched (placed c) .before)
+
+-- the image is as long as it was
+kept : (c : tie.After-enable-slot) → length (c .enable-slot .last .0) ≡ length (start₄ c .args .image .now)
+kept c = search needs
+
+area-of-requires : tie.Need-area-of-requires
+unfolding earlyChecks
+area-of-requires c κs = let e = judged (c .before .before) in (header-ok (checked (e .before)), early-passed e .0)
 
 enable-slot-requires : tie.Need-enable-slot-requires
 unfolding earlyChecks
 enable-slot-requires c κs =
-    let e = judged (c .before .before) in
+    let e = judged (matched (c .before) .before) in
     let p = early-passed e in
     (header-ok (checked (e .before)), p .0, p .1 .1 .0, p .1 .1 .1 .0, p .1 .1 .1 .1 .0, p .1 .1 .1 .1 .1 .0)
 
+put-list-requires : tie.Need-put-list-requires
+unfolding earlyChecks
+put-list-requires c κs =
+    let n = c .before .before .before .before in
+    let e = judged (matched (placed n) .before) in
+    let s = start₄ n in
+    let p = early-passed e in
+    let ok = header-ok (checked (e .before)) in
+    let a = placed n .area-of in (
+      area-within (s .args .image .now) ok (s .args .slot) (p .0) (a .result) (a .ensures .0) (n .enable-slot .last .0) (kept n),
+      list-room (s .args .image .now) ok (s .args .slot) (p .0) (a .result) (a .ensures .0) (n .enable-slot .last .0) (kept n) (s .args .list .now) (p .1 .1 .1 .1 .1 .1 .0),
+    )
+
 returns-4 : tie.Need-returns-4
-unfolding answer done writes
+unfolding answer done writes earlyChecks listOf
 returns-4 c =
-    let k = c .before .before .before .before in
+    let w = c .before .before in
+    let n = w .before .before .before .before .before in
+    let k = matched (placed n) in
     let e = judged (k .before) in
-    let s = start₃ (k .before) in
+    let s = start₄ n in
     let m = s .args .image .now in
-    does-accepted built m (called s) _ (step-accepted built m (called s) (header-ok (checked (e .before))) (early-zero e) (late-zero k))
-    (number (e .before .before .add-check .result)) _ (sym (e .before .number-of2 .ensures) ∙ e .if2 .left) (c .before .before .enable-slot .ensures .0)
+    let p = early-passed e in
+    let ok = header-ok (checked (e .before)) in
+    let a = placed n .area-of in
+    let z = sym (e .before .number-of2 .ensures) ∙ e .if2 .left in
+    let i = n .enable-slot .ensures .0 in
+    lists-accepted built m (called s) _ (step-accepted built m (called s) ok (early-zero e) (late-zero k))
+    (number (e .before .before .add-check .result)) _ (s .args .list .now) _ z z i
+    (list-filled m ok (s .args .slot) (p .0) (a .result) (a .ensures .0) (n .enable-slot .last .0) (kept n) (s .args .list .now) _ (p .1 .1 .1 .1 .1 .1 .0) (w .put-list .ensures)
+    ∙ ap (λ (x : List ℕ). encoded (slotList (facts s) (s .args .slot) x)) i)
 
 pub add-spec : {M : Type 1} → statement M
 add-spec =
@@ -134,10 +182,15 @@ add-spec =
     add-check-requires
     (λ number-of-requires-2 κs. search needs)
     (λ same-length-2. search needs)
+    (λ same-length-3. search needs)
     returns-2
     key-matches-requires
-    (λ same-length-3. search needs)
-    returns-3
-    enable-slot-requires
     (λ same-length-4. search needs)
+    (λ same-length-5. search needs)
+    returns-3
+    area-of-requires
+    enable-slot-requires
+    put-list-requires
+    (λ same-length-6. search needs)
+    (λ same-length-7. search needs)
     returns-4)

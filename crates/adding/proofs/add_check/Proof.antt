@@ -18,12 +18,12 @@ use Rattle.adding.proofs.add_check.Tie as tie
 abbrev checks : tie.Start → List ℕ → List Check
 checks s salt =
     let a = s .args in
-    earlyChecks (factsIn (a .image .now)) (add (a .slot) (a .key .now) (slotInput (a .passphrase .now) salt (a .count) (a .random .now)))
+    earlyChecks (factsIn (a .image .now)) (add (a .slot) (a .key .now) (slotInput (a .passphrase .now) salt (a .count) (a .random .now)) (a .list .now))
 
 -- ---- places: the call, behind each test
 
 abbrev start₁ : tie.Else1 → tie.Start
-start₁ c = c .before .before .before .before .before .before
+start₁ c = c .before .before .before .before .before .before .before
 
 abbrev start₂ : tie.Else2 → tie.Start
 start₂ c = start₁ (c .before .before)
@@ -39,6 +39,9 @@ start₅ c = start₄ (c .before .before)
 
 abbrev start₆ : tie.Else6 → tie.Start
 start₆ c = start₅ (c .before .before)
+
+abbrev start₇ : tie.Else7 → tie.Start
+start₇ c = start₆ (c .before .before)
 
 -- ---- what has passed at each
 
@@ -62,9 +65,13 @@ passed₅ : (c : tie.Else5) (salt : List ℕ) → Pass (take 5 (checks (start₅
 unfolding earlyChecks
 passed₅ c salt = pass-next (checks (start₅ c) salt) 4 (passed₄ (c .before .before) salt) (holds (c .before .count-ok .ensures) (c .if5 .left))
 
-passed₆ : (c : tie.Else6) (salt : List ℕ) → Pass (checks (start₆ c) salt)
+passed₆ : (c : tie.Else6) (salt : List ℕ) → Pass (take 6 (checks (start₆ c) salt))
 unfolding earlyChecks
 passed₆ c salt = pass-next (checks (start₆ c) salt) 5 (passed₅ (c .before .before) salt) (holds (c .before .random-ok .ensures) (c .if6 .left))
+
+passed₇ : (c : tie.Else7) (salt : List ℕ) → Pass (checks (start₇ c) salt)
+unfolding earlyChecks
+passed₇ c salt = pass-next (checks (start₇ c) salt) 6 (passed₆ (c .before .before) salt) (holds (c .before .list-ok .ensures) (c .if7 .left))
 
 -- ---- needs
 
@@ -100,8 +107,16 @@ returns-6 : tie.Need-returns-6
 unfolding earlyChecks
 returns-6 c salt = refused-by _ 5 (passed₅ (c .before .before) salt) (fails (c .before .random-ok .ensures) (c .if6 .taken))
 
+list-ok-requires : tie.Need-list-ok-requires
+unfolding earlyChecks
+list-ok-requires c κs = (start₆ c .pre, passed₆ c [] .0)
+
 returns-7 : tie.Need-returns-7
-returns-7 c salt = all-pass (checks (start₆ c) salt) (passed₆ c salt)
+unfolding earlyChecks
+returns-7 c salt = refused-by _ 6 (passed₆ (c .before .before) salt) (fails (c .before .list-ok .ensures) (c .if7 .taken))
+
+returns-8 : tie.Need-returns-8
+returns-8 c salt = all-pass (checks (start₇ c) salt) (passed₇ c salt)
 
 pub add-check-spec : {M : Type 1} → statement M
 add-check-spec =
@@ -119,4 +134,6 @@ add-check-spec =
     returns-5
     random-ok-requires
     returns-6
-    returns-7)
+    list-ok-requires
+    returns-7
+    returns-8)

@@ -1,5 +1,6 @@
 -- `changing::change` meets its contract: each place knows which checks have passed, and each return is the rules' step.
 use mathlib.Core.Path.{_≡_, refl, sym, ap, _∙_}
+use mathlib.Core.Logic.{_≢_}
 use mathlib.Core.List.{List, _++_}
 use mathlib.Core.Bool.{true}
 use Prim.Native.Nat.{ℕ, _-_}
@@ -12,9 +13,11 @@ use Rattle.octets.specs.Octets.{zeros}
 use Rattle.rules.specs.Checks.{Check, first}
 use Rattle.rules.specs.Facts.{Facts, SlotInput, slotInput, matches, candidate}
 use Rattle.rules.specs.Calls.{Call, change, keyOk, earlyChecks, lateChecks, done, answer}
+use Rattle.rules.specs.Sectors.{encoded, slotList}
 use Rattle.rules.specs.Step.{written, writes, enableWrites, disableWrites}
+use Rattle.rules.specs.Lists.{enabledImage, disabledImage, listOf}
 use Rattle.rules.proofs.ChecksLaws.{refused-by, first-pass}
-use Rattle.rules.proofs.StepLaws.{step-header, step-early, step-late, step-accepted, does-refused, does-accepted}
+use Rattle.rules.proofs.StepLaws.{step-header, step-early, step-late, step-accepted, lists-refused, lists-accepted}
 use Rattle.profiles.specs.Suites.{built}
 use Rattle.header.specs.Refusals.{number}
 use Rattle.header.specs.Records.{factsIn, HeaderOk}
@@ -33,7 +36,7 @@ abbrev input : tie.Start → SlotInput
 input s = let a = s .args in slotInput (a .new .now) (a .salt .now) (a .count) (a .random .now)
 
 abbrev called : tie.Start → Call
-called s = let a = s .args in change (a .from) (a .old .now) (a .to) (input s) (a .filler .now)
+called s = let a = s .args in change (a .from) (a .old .now) (a .to) (input s) (a .filler .now) (a .list .now)
 
 abbrev early : tie.Start → List Check
 early s = earlyChecks (facts s) (called s)
@@ -48,7 +51,7 @@ recovered s = candidate (facts s) (s .args .from) (s .args .old .now)
 -- ---- where the header is accepted
 
 abbrev start₁ : tie.After-number-of → tie.Start
-start₁ c = c .before .before .before .before .before .before .before .before
+start₁ c = c .before .before .before .before .before .before .before .before .before
 
 header-ok : (c : tie.Else1) → HeaderOk (start₁ (c .before) .args .image .now)
 header-ok c = sym (c .before .before .header-check .ensures) ∙ sym (c .before .number-of .ensures) ∙ c .if1 .left
@@ -56,7 +59,7 @@ header-ok c = sym (c .before .before .header-check .ensures) ∙ sym (c .before 
 -- ---- where the early checks have passed
 
 abbrev checked : tie.After-number-of2 → tie.Else1
-checked c = c .before .before .before
+checked c = c .before .before .before .before
 
 abbrev start₂ : tie.After-number-of2 → tie.Start
 start₂ c = start₁ (checked c .before)
@@ -64,10 +67,10 @@ start₂ c = start₁ (checked c .before)
 early-zero : (c : tie.Else2) → first (early (start₂ (c .before))) ≡ 0
 early-zero c = sym (c .before .before .change-check .ensures (start₂ (c .before) .args .salt .now)) ∙ sym (c .before .number-of2 .ensures) ∙ c .if2 .left
 
-fit : (c : tie.Else2) → let s = start₂ (c .before) in Given (facts s) (s .args .from) (s .args .old .now) (s .args .to) (input s) (s .args .filler .now)
+fit : (c : tie.Else2) → let s = start₂ (c .before) in Given (facts s) (s .args .from) (s .args .old .now) (s .args .to) (input s) (s .args .filler .now) (s .args .list .now)
 fit c =
     let s = start₂ (c .before) in
-    given (facts s) (s .args .from) (s .args .old .now) (s .args .to) (input s) (s .args .filler .now) (early-zero c)
+    given (facts s) (s .args .from) (s .args .old .now) (s .args .to) (input s) (s .args .filler .now) (s .args .list .now) (early-zero c)
 
 -- ---- where the first slot has been tried
 
@@ -116,20 +119,22 @@ front c =
 returns : tie.Need-returns
 returns c =
     let s = start₁ (c .before) in
+    let m = s .args .image .now in
     let h = c .before .before .header-check in
-    does-refused built (s .args .image .now) (called s) (number (h .result))
-    (step-header built (s .args .image .now) (called s) (number (h .result)) (λ q. c .if1 .taken (c .before .number-of .ensures ∙ q)) (h .ensures))
+    let z : number (h .result) ≢ 0 = λ q. c .if1 .taken (c .before .number-of .ensures ∙ q) in
+    lists-refused built m (called s) (number (h .result)) z (s .args .list .now) (step-header built m (called s) (number (h .result)) z (h .ensures))
 
 change-check-requires : tie.Need-change-check-requires
-change-check-requires c κs = header-ok (c .before)
+change-check-requires c κs = header-ok (c .before .before)
 
 returns-2 : tie.Need-returns-2
 returns-2 c =
     let s = start₂ (c .before) in
     let m = s .args .image .now in
     let r = c .before .before .change-check in
-    does-refused built m (called s) (number (r .result))
-    (step-early built m (called s) (header-ok (checked (c .before))) (number (r .result)) (λ q. c .if2 .taken (c .before .number-of2 .ensures ∙ q)) (r .ensures (s .args .salt .now)))
+    let z : number (r .result) ≢ 0 = λ q. c .if2 .taken (c .before .number-of2 .ensures ∙ q) in
+    lists-refused built m (called s) (number (r .result)) z (s .args .list .now)
+    (step-early built m (called s) (header-ok (checked (c .before))) (number (r .result)) z (r .ensures (s .args .salt .now)))
 
 try-slot-requires : tie.Need-try-slot-requires
 try-slot-requires c κs = let e = c .before in (header-ok (checked (e .before)), fit e .from-ok, fit e .old-ok)
@@ -140,7 +145,7 @@ returns-3 c =
     let t = c .before .before in
     let s = start₃ t in
     let m = s .args .image .now in
-    does-refused built m (called s) 17
+    lists-refused built m (called s) 17 (λ q. omega arith) (s .args .list .now)
     (step-late built m (called s) (ok₃ t) (early-zero (judged t)) 17 (λ q. omega arith)
     (refused-by (late s) 0 tt (match-is t ∙ not-true (t .try-slot .result .opens) (c .if3 .taken))))
 
@@ -159,24 +164,30 @@ slice-aggregate-move-key c = let k = c .before .before .before in k .key-bytes .
 move-key-requires : tie.Need-move-key-requires
 unfolding keyOk
 move-key-requires c κs =
-    let k = c .before .before .before in
+    let k = c .before .before .before .before in
     let t = trial k in
     let g = fit (judged t) in
-    (ok₃ t, g .from-ok, g .to-ok, eq-eqb _ _ (ap length (front k) ∙ candidate-length k), g .new-ok, g .count-ok, g .random-ok, g .filler-ok)
+    (ok₃ t, g .from-ok, g .to-ok, eq-eqb _ _ (ap length (front k) ∙ candidate-length k), g .new-ok, g .count-ok, g .random-ok, g .filler-ok, g .list-ok)
 
 returns-4 : tie.Need-returns-4
-unfolding answer done writes
+unfolding answer done writes listOf
 returns-4 c =
-    let k = c .before .before .before .before .before .before in
+    let v = c .before .before .before .before in
+    let k = v .before .before .before .before .before in
     let t = trial k in
     let e = judged t in
     let s = start₃ t in
     let a = s .args in
     let m = a .image .now in
-    does-accepted built m (called s) _ (step-accepted built m (called s) (ok₃ t) (early-zero e) (late-zero (k .before .before)))
-    (number (e .before .before .change-check .result)) _ (sym (e .before .number-of2 .ensures) ∙ e .if2 .left)
-    (c .before .before .move-key .ensures
-    ∙ ap (λ (y : List ℕ). written (enableWrites (facts s) (a .to) y (input s) ++ disableWrites (facts s) (a .from) (a .filler .now)) m) (front k))
+    let f = facts s in
+    let z = sym (e .before .number-of2 .ensures) ∙ e .if2 .left in
+    lists-accepted built m (called s) _ (step-accepted built m (called s) (ok₃ t) (early-zero e) (late-zero (k .before .before)))
+    (number (e .before .before .change-check .result)) _ (a .list .now) _ z z
+    (v .move-key .ensures .image-is
+    ∙ ap (λ (y : List ℕ). written (enableWrites f (a .to) y (input s) ++ disableWrites f (a .from) (a .filler .now)) m) (front k))
+    (v .move-key .ensures .list-is
+    ∙ ap (λ (y : List ℕ). encoded (slotList f (a .to) (enabledImage f (a .to) y (input s) m)
+    ++ slotList f (a .from) (disabledImage f (a .from) (a .filler .now) (enabledImage f (a .to) y (input s) m)))) (front k))
 
 pub change-spec : {M : Type 1} → statement M
 change-spec =
@@ -189,14 +200,17 @@ change-spec =
     change-check-requires
     (λ number-of-requires-2 κs. search needs)
     (λ same-length-2. search needs)
+    (λ same-length-3. search needs)
     returns-2
     try-slot-requires
-    (λ same-length-3. search needs)
+    (λ same-length-4. search needs)
+    (λ same-length-5. search needs)
     returns-3
     key-bytes-requires
     (λ cast-l. search needs)
     array-share-prefix-key
     slice-aggregate-move-key
     move-key-requires
-    (λ same-length-4. search needs)
+    (λ same-length-6. search needs)
+    (λ same-length-7. search needs)
     returns-4)

@@ -18,12 +18,13 @@ use Rattle.changing.proofs.change_check.Tie as tie
 abbrev checks : tie.Start → List ℕ → List Check
 checks s salt =
     let a = s .args in
-    earlyChecks (factsIn (a .image .now)) (change (a .from) (a .old .now) (a .to) (slotInput (a .new .now) salt (a .count) (a .random .now)) (a .filler .now))
+    earlyChecks (factsIn (a .image .now))
+    (change (a .from) (a .old .now) (a .to) (slotInput (a .new .now) salt (a .count) (a .random .now)) (a .filler .now) (a .list .now))
 
 -- ---- places: the call, behind each test; states and passphrases are judged before the second
 
 abbrev start₁ : tie.Else1 → tie.Start
-start₁ c = c .before .before .before .before .before .before .before
+start₁ c = c .before .before .before .before .before .before .before .before
 
 abbrev start₂ : tie.Else2 → tie.Start
 start₂ c = start₁ (c .before .before .before)
@@ -36,6 +37,9 @@ start₄ c = start₃ (c .before .before)
 
 abbrev start₅ : tie.Else5 → tie.Start
 start₅ c = start₄ (c .before .before)
+
+abbrev start₆ : tie.Else6 → tie.Start
+start₆ c = start₅ (c .before .before)
 
 -- ---- what has passed at each
 
@@ -59,9 +63,13 @@ passed₄ : (c : tie.Else4) (salt : List ℕ) → Pass (take 4 (checks (start₄
 unfolding earlyChecks
 passed₄ c salt = pass-next (checks (start₄ c) salt) 3 (passed₃ (c .before .before) salt) (holds (c .before .count-ok .ensures) (c .if4 .left))
 
-passed₅ : (c : tie.Else5) (salt : List ℕ) → Pass (checks (start₅ c) salt)
+passed₅ : (c : tie.Else5) (salt : List ℕ) → Pass (take 5 (checks (start₅ c) salt))
 unfolding earlyChecks
 passed₅ c salt = pass-next (checks (start₅ c) salt) 4 (passed₄ (c .before .before) salt) (holds (c .before .lengths-ok .ensures) (c .if5 .left))
+
+passed₆ : (c : tie.Else6) (salt : List ℕ) → Pass (checks (start₆ c) salt)
+unfolding earlyChecks
+passed₆ c salt = pass-next (checks (start₆ c) salt) 5 (passed₅ (c .before .before) salt) (holds (c .before .lists-ok .ensures) (c .if6 .left))
 
 -- ---- needs
 
@@ -94,8 +102,18 @@ returns-5 : tie.Need-returns-5
 unfolding earlyChecks
 returns-5 c salt = refused-by _ 4 (passed₄ (c .before .before) salt) (fails (c .before .lengths-ok .ensures) (c .if5 .taken))
 
+lists-ok-requires : tie.Need-lists-ok-requires
+lists-ok-requires c κs =
+    let first = c .before .before .before .before .before .before .before .before in
+    let n = numbers first in
+    (start₁ first .pre, n .0, n .1)
+
 returns-6 : tie.Need-returns-6
-returns-6 c salt = all-pass (checks (start₅ c) salt) (passed₅ c salt)
+unfolding earlyChecks
+returns-6 c salt = refused-by _ 5 (passed₅ (c .before .before) salt) (fails (c .before .lists-ok .ensures) (c .if6 .taken))
+
+returns-7 : tie.Need-returns-7
+returns-7 c salt = all-pass (checks (start₆ c) salt) (passed₆ c salt)
 
 pub change-check-spec : {M : Type 1} → statement M
 change-check-spec =
@@ -111,4 +129,6 @@ change-check-spec =
     returns-4
     lengths-ok-requires
     returns-5
-    returns-6)
+    lists-ok-requires
+    returns-6
+    returns-7)

@@ -17,11 +17,11 @@ use Rattle.revoking.proofs.revoke_check.Tie as tie
 
 -- ---- places: behind check i the checks up to it have passed
 
-abbrev list : tie.Start → List Check
-list s = earlyChecks (factsIn (s .args .image .now)) (revoke (s .args .slot) (s .args .filler .now))
+abbrev checks : tie.Start → List Check
+checks s = earlyChecks (factsIn (s .args .image .now)) (revoke (s .args .slot) (s .args .filler .now) (s .args .list .now))
 
 abbrev start-1 : tie.Else1 → tie.Start
-start-1 c = c .before .before .before .before
+start-1 c = c .before .before .before .before .before
 
 abbrev start-2 : tie.Else2 → tie.Start
 start-2 c = start-1 (c .before .before)
@@ -32,20 +32,27 @@ start-3 c = start-2 (c .before .before .before)
 abbrev start-4 : tie.Else4 → tie.Start
 start-4 c = start-3 (c .before)
 
+abbrev start-5 : tie.Else5 → tie.Start
+start-5 c = start-4 (c .before .before)
+
 number-ok : (c : tie.Else1) → slotNumberOk (start-1 c .args .slot) ≡ true
 number-ok c = holds (c .before .slot-number-ok .ensures) (c .if1 .left)
 
-pass-1 : (c : tie.Else1) → Pass (take 1 (list (start-1 c)))
+pass-1 : (c : tie.Else1) → Pass (take 1 (checks (start-1 c)))
 unfolding earlyChecks
 pass-1 c = (number-ok c, tt)
 
-pass-2 : (c : tie.Else2) → Pass (take 2 (list (start-2 c)))
+pass-2 : (c : tie.Else2) → Pass (take 2 (checks (start-2 c)))
 unfolding earlyChecks
-pass-2 c = pass-next (list (start-2 c)) 1 (pass-1 (c .before .before)) (holds (c .before .slot-enabled .ensures) (c .if2 .left))
+pass-2 c = pass-next (checks (start-2 c)) 1 (pass-1 (c .before .before)) (holds (c .before .slot-enabled .ensures) (c .if2 .left))
 
-pass-3 : (c : tie.Else3) → Pass (take 3 (list (start-3 c)))
+pass-3 : (c : tie.Else3) → Pass (take 3 (checks (start-3 c)))
 unfolding earlyChecks
-pass-3 c = pass-next (list (start-3 c)) 2 (pass-2 (c .before .before .before)) (holds (c .before .before .other-enabled .ensures) (c .if3 .left))
+pass-3 c = pass-next (checks (start-3 c)) 2 (pass-2 (c .before .before .before)) (holds (c .before .before .other-enabled .ensures) (c .if3 .left))
+
+pass-4 : (c : tie.Else4) → Pass (take 4 (checks (start-4 c)))
+unfolding earlyChecks
+pass-4 c = pass-next (checks (start-4 c)) 3 (pass-3 (c .before)) (holds (c .before .before .filler-ok .ensures) (c .if4 .left))
 
 -- ---- needs
 
@@ -80,11 +87,19 @@ returns-4 : tie.Need-returns-4
 unfolding earlyChecks
 returns-4 c = refused-by _ 3 (pass-3 (c .before)) (fails (c .before .before .filler-ok .ensures) (c .if4 .taken))
 
+list-ok-requires : tie.Need-list-ok-requires
+unfolding earlyChecks
+list-ok-requires c κs = (start-4 c .pre, pass-4 c .0)
+
 returns-5 : tie.Need-returns-5
 unfolding earlyChecks
-returns-5 c =
-    let checks = list (start-4 c) in
-    all-pass checks (pass-next checks 3 (pass-3 (c .before)) (holds (c .before .before .filler-ok .ensures) (c .if4 .left)))
+returns-5 c = refused-by _ 4 (pass-4 (c .before .before)) (fails (c .before .list-ok .ensures) (c .if5 .taken))
+
+returns-6 : tie.Need-returns-6
+unfolding earlyChecks
+returns-6 c =
+    let all = checks (start-5 c) in
+    all-pass all (pass-next all 4 (pass-4 (c .before .before)) (holds (c .before .list-ok .ensures) (c .if5 .left)))
 
 pub revoke-check-spec : {M : Type 1} → statement M
 revoke-check-spec =
@@ -100,4 +115,6 @@ revoke-check-spec =
     filler-ok-requires
     returns-3
     returns-4
-    returns-5)
+    list-ok-requires
+    returns-5
+    returns-6)

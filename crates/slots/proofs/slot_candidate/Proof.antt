@@ -6,7 +6,8 @@ use lib.ListN.{length, take, drop, length-drop}
 use lib.Seq.{length-take-le}
 use borrow.Author.Needs.{needs}
 use Rattle.rules.proofs.ArgumentLaws.{passphrase-in}
-use Rattle.header.proofs.SoundLaws.{Sound, SlotSound, sound}
+use Rattle.rules.proofs.SoundLaws.{SlotSound}
+use Rattle.header.proofs.SoundLaws.{Sound, sound}
 use Rattle.rules.specs.Facts.{candidate}
 use Rattle.header.specs.Records.{factsIn}
 use Rattle.slots.proofs.AreaLaws.{area-small, area-fits, some-stripes, area-is, candidate-is}

@@ -1,6 +1,7 @@
 //! One call, made to the library and to the model, and everything compared: number, answer, image, lent buffers and
 //! the bytes around them; then both screens of the image. Counts what was called, shown and refused.
 
+use crate::cuts::Cuts;
 use crate::random::Random;
 use crate::screens;
 use mivrozh::raw;
@@ -48,13 +49,16 @@ pub struct Both {
     pub accepted: [[u64; 8]; PROFILES.len()],
     /// Images shown on both screens, by the number that these gave.
     pub shown: [u64; 7],
+    /// What was tried of cut lists.
+    pub cuts: Cuts,
 }
 
 impl Both {
     pub fn new(seed: u64) -> Both {
         let random = Random::new(seed ^ 0x6c656e74);
         let (model, accepted) = (Model::default(), Default::default());
-        Both { model, random, calls: [0; 8], numbers: [[0; 21]; 8], accepted, shown: [0; 7] }
+        let cuts = Cuts::default();
+        Both { model, random, calls: [0; 8], numbers: [[0; 21]; 8], accepted, shown: [0; 7], cuts }
     }
 
     /// Makes the call to both, compares, and leaves the image as the call does. Then shows it on the screens of both.
@@ -91,9 +95,8 @@ impl Both {
     }
 
     fn library(&mut self, image: &[u8], call: &Call) -> (Outcome, bool) {
-        let before = if let Call::Read { buffer, .. } = call { &buffer[..] } else { &[] };
         let mut lent_image = Lent::new(&mut self.random, image);
-        let mut lent_buffer = Lent::new(&mut self.random, before);
+        let mut lent_buffer = Lent::new(&mut self.random, call.lent());
         let mut lent_opened = Lent::new(&mut self.random, &[UNTOUCHED; 66]);
         let opened: &mut [u8; 66] = lent_opened.bytes().try_into().expect("66 bytes were lent");
         let number = call_library(lent_image.bytes(), lent_buffer.bytes(), opened, call);
@@ -110,15 +113,15 @@ fn call_library(image: &mut [u8], lent: &mut [u8], opened: &mut [u8; 66], call: 
         Call::Format { profile, stripes, key, salt, count, uuid } => {
             raw::format(image, *profile, *stripes, key, salt, *count, uuid)
         }
-        Call::Add { slot, key, passphrase, salt, count, random } => {
-            raw::add(image, *slot, key, passphrase, salt, *count, random)
+        Call::Add { slot, key, passphrase, salt, count, random, .. } => {
+            raw::add(image, *slot, key, passphrase, salt, *count, random, lent)
         }
         Call::OpenSlot { slot, passphrase } => raw::open_slot(image, *slot, passphrase, opened),
         Call::Open { passphrase } => raw::open(image, passphrase, opened),
-        Call::Change { from, old, to, new, salt, count, random, filler } => {
-            raw::change(image, *from, old, *to, new, salt, *count, random, filler)
+        Call::Change { from, old, to, new, salt, count, random, filler, .. } => {
+            raw::change(image, *from, old, *to, new, salt, *count, random, filler, lent)
         }
-        Call::Revoke { slot, filler } => raw::revoke(image, *slot, filler),
+        Call::Revoke { slot, filler, .. } => raw::revoke(image, *slot, filler, lent),
         Call::Read { key, first, units, .. } => raw::read(image, key, *first, *units, lent),
         Call::Write { key, first, units, buffer } => raw::write(image, key, *first, *units, buffer),
     }

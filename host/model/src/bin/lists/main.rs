@@ -1,6 +1,7 @@
 //! Holds the library against the independent model: every set of checks that can fail together, every way of damage,
-//! and seeded random lists of calls; after each call, both screens of the image. Ends with a failure at the first
-//! difference, or if a refusal number was not reached.
+//! and seeded random lists of calls, in which lists of sector writes are cut, on long images some of them (`cuts` says how);
+//! after each call, both screens of the image. Ends with a failure at the first difference, or if a refusal number was not
+//! reached.
 //!
 //!     lists [--calls N] [--seed S] [--profiles P]
 //!
@@ -9,6 +10,7 @@
 //! take turns.
 
 mod both;
+mod cuts;
 mod damage;
 mod drives;
 mod random;
@@ -17,6 +19,7 @@ mod sets;
 mod walks;
 
 use both::Both;
+use cuts::{Cuts, Ends};
 use model::calls::KINDS;
 use model::header::PROFILES;
 use random::Random;
@@ -57,6 +60,7 @@ fn run(options: &Options, both: &mut Both) -> Result<(), String> {
         println!("  {name:10} {count:6}");
     }
     println!("ways of damage, before each call: {}", sets::ways(both, &mut random)?);
+    println!("lengths of list buffers: {}", sets::lengths(both, &mut random)?);
     println!("calls on drives of the figures: {}", sets::figures(both, &mut random, options.profiles)?);
     let [same, first, neither] = sets::agreements(both, &mut random)?;
     println!(
@@ -65,6 +69,7 @@ fn run(options: &Options, both: &mut Both) -> Result<(), String> {
     if same == 0 || first == 0 || neither == 0 {
         return Err("a kind of pair was not met".into());
     }
+    walks::cut_on_new_drive(both, &mut random)?;
     let (mut made, mut lists) = (0, [0; walks::BEGINNINGS.len()]);
     for (i, on) in walks::TURNS.into_iter().cycle().enumerate() {
         if made >= options.calls {
@@ -78,11 +83,26 @@ fn run(options: &Options, both: &mut Both) -> Result<(), String> {
     for (name, lists) in walks::BEGINNINGS.iter().zip(lists) {
         println!("  {name:24} {lists:6}");
     }
+    show_cuts(&both.cuts);
     Ok(())
 }
 
+fn show_cuts(cuts: &Cuts) {
+    println!("lists of sector writes that were cut, and images that cuts left:");
+    let kinds = KINDS.iter().zip(cuts.calls.iter().zip(cuts.images)).filter(|(_, (calls, _))| **calls > 0);
+    kinds.for_each(|(name, (calls, images))| println!("  {name:10} {calls:6} {images:6}"));
+    println!("  other slots opened: {}", cuts.openings);
+    for (images, ends) in [("all", cuts.ends), ("long", cuts.long_ends)] {
+        let Ends { again, done_before, revoked } = ends;
+        println!(
+            "  ended on {images} images by the call again: {again}, by a revoke: {revoked}, done before: {done_before}"
+        );
+    }
+}
+
 /// The tables of calls by kind and number, of accepted calls by kind and profile, and of images shown; false if a
-/// number of 0 to 20 was never given, a call never accepted on a profile, or a number of 0 to 6 never by the screens.
+/// number of 0 to 20 was never given, a call never accepted on a profile, a number of 0 to 6 never by the screens, or some
+/// kind of cut never met.
 fn table(both: &Both) -> bool {
     println!("number   {}     all", KINDS.map(|kind| format!("{kind:>10}")).concat());
     let mut complete = true;
@@ -101,7 +121,7 @@ fn table(both: &Both) -> bool {
         complete &= row.iter().all(|n| *n > 0);
     }
     println!("images on both screens, by number 0 to 6: {}", both.shown.map(|n| n.to_string()).join(", "));
-    complete && both.shown.iter().all(|n| *n > 0)
+    complete && both.shown.iter().all(|n| *n > 0) && both.cuts.complete()
 }
 
 fn main() -> ExitCode {
@@ -121,7 +141,8 @@ fn main() -> ExitCode {
     }
     if !table(&both) {
         println!(
-            "FAILED: a refusal number was not reached, by calls or screens, or a call was never accepted on a profile"
+            "FAILED: a refusal number was not reached, by calls or screens, a call was never accepted on a profile, or a kind \
+             of cut was not met"
         );
         return ExitCode::FAILURE;
     }

@@ -7,6 +7,7 @@
 //! still be whole (15 without 17).
 
 use crate::both::Both;
+use crate::cuts;
 use crate::damage;
 use crate::drives::{enable, foreign, Drive};
 use crate::random::Random;
@@ -14,17 +15,19 @@ use crate::screens;
 use model::calls::KINDS;
 use model::header::{at, layout, put_number, Header, Profile, ALIGNMENT, DISABLED, PROFILES};
 use model::slots::short_equal;
+use model::writes::{self, ENTRY};
 use model::xts::SECTOR;
 use model::Call;
+use std::collections::BTreeSet;
 
-/// The checks of each call in 01's order, by `KINDS`.
+/// The checks of each call in the order of 01 and 02, by `KINDS`.
 const ORDER: [&[u8]; 8] = [
     &[1, 7, 8, 9, 10, 11, 12],
-    &[1, 2, 3, 4, 5, 6, 13, 15, 9, 14, 10, 16, 17],
+    &[1, 2, 3, 4, 5, 6, 13, 15, 9, 14, 10, 16, 20, 17],
     &[1, 2, 3, 4, 5, 6, 13, 14, 15, 17],
     &[1, 2, 3, 4, 5, 6, 14, 17],
-    &[1, 2, 3, 4, 5, 6, 13, 15, 14, 10, 16, 17],
-    &[1, 2, 3, 4, 5, 6, 13, 15, 18, 16],
+    &[1, 2, 3, 4, 5, 6, 13, 15, 14, 10, 16, 20, 17],
+    &[1, 2, 3, 4, 5, 6, 13, 15, 18, 16, 20],
     &[1, 2, 3, 4, 5, 6, 9, 19, 20, 17],
     &[1, 2, 3, 4, 5, 6, 9, 19, 20, 17],
 ];
@@ -33,9 +36,10 @@ const ORDER: [&[u8]; 8] = [
 fn says_nothing(kind: &str, set: &[u8], number: u8) -> bool {
     match kind {
         "format" => set.contains(&7) && [9, 10, 12].contains(&number),
-        "add" => set.contains(&13) && [15, 16].contains(&number),
+        "add" => set.contains(&13) && [15, 16, 20].contains(&number),
         "open_slot" => set.contains(&13) && [15, 17].contains(&number),
-        "revoke" => set.contains(&13) && [15, 18, 16].contains(&number),
+        "change" => set.contains(&13) && number == 20,
+        "revoke" => set.contains(&13) && [15, 18, 16, 20].contains(&number),
         _ => false,
     }
 }
@@ -121,6 +125,28 @@ pub fn ways(both: &mut Both, random: &mut Random) -> Result<usize, String> {
     Ok(made)
 }
 
+/// Other lengths that a list buffer might have, in an add, a change and a revoke that would be accepted: 20, and then the right
+/// length is accepted, and the list is cut.
+pub fn lengths(both: &mut Both, random: &mut Random) -> Result<usize, String> {
+    let mut made = 0;
+    for base in bases(both, random) {
+        for name in ["add", "change", "revoke"] {
+            let kind = KINDS.iter().position(|kind| *kind == name).expect("a kind of call");
+            let (mut image, mut call) = Maker { random, base: &base, set: &[] }.case(kind);
+            let right = call.lent().len();
+            let others = other_lengths(&base.drive.header(), right).into_iter().map(|length| (length, 20));
+            let before = Drive { image: image.clone(), ..base.drive.clone() };
+            for (length, number) in others.chain([(right, 0)]) {
+                call.lend_list(random.bytes(length));
+                expect(both, &mut image, &call, number).map_err(|e| format!("a list of {length} bytes: {e}"))?;
+                made += 1;
+            }
+            cuts::everywhere(both, random, &before, &call)?;
+        }
+    }
+    Ok(made)
+}
+
 /// The drives that are made of one drive of each profile: how many of them show the same on both screens, on the first
 /// alone, and on neither.
 pub fn agreements(both: &mut Both, random: &mut Random) -> Result<[usize; 3], String> {
@@ -183,7 +209,9 @@ fn figure(both: &mut Both, random: &mut Random, p: &Profile, stripes: u32, paylo
     let passphrase = random.bytes(9);
     let before = random.bytes((stripes as usize - 1) * key.len());
     let (slot, passed) = (8, passphrase.clone());
-    let add = Call::Add { slot, key: key.clone(), passphrase: passed, salt: [4; 32], count: 1000, random: before };
+    let entries = (stripes as usize * key.len()).div_ceil(SECTOR) + 2;
+    let (salt, list) = ([4; 32], random.bytes(entries * ENTRY));
+    let add = Call::Add { slot, key: key.clone(), passphrase: passed, salt, count: 1000, random: before, list };
     let short = |by: usize| image[..image.len() - by].to_vec();
     for (mut image, number) in [(short(SECTOR), 12), (image[..65 * SECTOR].to_vec(), 12), (short(1), 1)] {
         expect(both, &mut image, &format, number)?;
@@ -376,6 +404,13 @@ impl Maker<'_> {
         self.random.bytes(bytes)
     }
 
+    /// A list buffer full of junk for the work on these slots; of another length if `bad`. Any where a slot is not there.
+    fn list(&mut self, slots: &[u8], bad: bool) -> Vec<u8> {
+        let right = list_length(&self.base.drive.header(), slots).unwrap_or(ENTRY);
+        let length = if bad { self.random.pick(&other_lengths(&self.base.drive.header(), right)) } else { right };
+        self.random.bytes(length)
+    }
+
     fn add(&mut self) -> Call {
         let slot = match (self.fails(13), self.fails(15)) {
             (true, _) => self.no_slot(),
@@ -386,7 +421,8 @@ impl Maker<'_> {
         let passphrase = self.passphrase(self.fails(14));
         let (salt, count) = (self.random.salt(), self.count());
         let random = self.stripes(slot, 1, self.fails(16));
-        Call::Add { slot, key, passphrase, salt, count, random }
+        let list = self.list(&[slot], self.fails(20));
+        Call::Add { slot, key, passphrase, salt, count, random, list }
     }
 
     fn open_slot(&mut self) -> Call {
@@ -446,7 +482,8 @@ impl Maker<'_> {
         };
         let random = self.stripes(to, 1, bad_random);
         let filler = self.stripes(from, 0, bad_filler);
-        Call::Change { from, old, to, new, salt: self.random.salt(), count: self.count(), random, filler }
+        let list = self.list(&[to, from], self.fails(20));
+        Call::Change { from, old, to, new, salt: self.random.salt(), count: self.count(), random, filler, list }
     }
 
     /// Which of change's two slots is not there: not the first where its candidate is to be judged, and not both
@@ -466,7 +503,8 @@ impl Maker<'_> {
             [1, 2].into_iter().filter(|k| *k != slot).for_each(|k| disable(image, k as usize));
         }
         let slot = if self.fails(13) { self.no_slot() } else { slot };
-        Call::Revoke { slot, filler: self.stripes(slot, 0, self.fails(16)) }
+        let (filler, list) = (self.stripes(slot, 0, self.fails(16)), self.list(&[slot], self.fails(20)));
+        Call::Revoke { slot, filler, list }
     }
 
     fn payload(&mut self, image: &[u8], read: bool) -> Call {
@@ -498,6 +536,21 @@ impl Maker<'_> {
             Call::Write { key, first, units, buffer }
         }
     }
+}
+
+/// How long the list of the work on these slots is; none where one of them is not there.
+pub fn list_length(header: &Header, slots: &[u8]) -> Option<usize> {
+    let length = |k: &u8| header.slot(*k).map(|slot| writes::length(slot, header.key_bytes) as usize);
+    slots.iter().map(length).sum()
+}
+
+/// Lengths that a list buffer might have and must not: none, a byte or an entry short or long, the list of any one slot,
+/// twice that, and the bytes of the sectors without their numbers.
+fn other_lengths(header: &Header, right: usize) -> Vec<usize> {
+    let of_slots = (1..=8).filter_map(|k| list_length(header, &[k])).flat_map(|length| [length, 2 * length]);
+    let near = [0, 1, right - 1, right + 1, right - ENTRY, right + ENTRY, right / ENTRY * SECTOR];
+    let others: BTreeSet<usize> = near.into_iter().chain(of_slots).filter(|length| *length != right).collect();
+    others.into_iter().collect()
 }
 
 fn one_or_both(random: &mut Random, some: bool) -> (bool, bool) {

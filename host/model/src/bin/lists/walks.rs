@@ -2,10 +2,13 @@
 //! mostly fair.
 
 use crate::both::Both;
+use crate::cuts;
 use crate::damage;
 use crate::drives::{self, fair_format, foreign, image_for, old_start, Drive};
 use crate::random::Random;
+use crate::sets;
 use model::header::{Profile, ALIGNMENT, HEADER};
+use model::writes::ENTRY;
 use model::xts::SECTOR;
 use model::Call;
 
@@ -26,7 +29,7 @@ pub const BEGINNINGS: [&str; 4] = ["a new drive", "an old payload start", "a for
 /// Lists begin on these by turns, so that a short run has all of them too.
 pub const TURNS: [Beginning; 10] = [New, OldStart, Foreign, Damaged, New, OldStart, Foreign, Damaged, New, OldStart];
 
-/// One list of calls, at most `most` of them; gives how many were made.
+/// One list of calls, at most `most` of them; gives how many were made. Lists of sector writes are cut on the way.
 pub fn walk(both: &mut Both, random: &mut Random, on: Beginning, most: usize) -> Result<usize, String> {
     let mut drive = start(both, random, on)?;
     // A new drive is made by a call.
@@ -37,13 +40,35 @@ pub fn walk(both: &mut Both, random: &mut Random, on: Beginning, most: usize) ->
             disturb(random, &mut drive);
         }
         let call = some_call(random, &drive);
+        let before = cuts::is_chosen(random, &drive, &call).then(|| drive.clone());
         let number = both.run(&mut drive.image, &call)?;
         if number == 0 {
+            if let Some(before) = before {
+                cuts::everywhere(both, random, &before, &call)?;
+            }
             drive.learn(&call);
         }
         made += 1;
     }
     Ok(made)
+}
+
+/// Two adds, a change and a revoke on a new drive, whose image is long, each accepted and its list cut: in random lists that may
+/// not come.
+pub fn cut_on_new_drive(both: &mut Both, random: &mut Random) -> Result<(), String> {
+    let (profile, key) = drives::profile_and_key(random);
+    let mut drive = formatted(both, random, profile, key)?;
+    for make in [add, add, change, revoke] {
+        loop {
+            let (before, call) = (drive.clone(), make(random, &drive));
+            if both.run(&mut drive.image, &call)? == 0 {
+                cuts::everywhere(both, random, &before, &call)?;
+                drive.learn(&call);
+                break;
+            }
+        }
+    }
+    Ok(())
 }
 
 /// A byte beyond the header becomes another: of an area, of the payload, or anywhere.
@@ -109,6 +134,9 @@ fn wreck(random: &mut Random, image: &mut Vec<u8>) {
 
 /// One time in `RARE`, an argument is not as it should be.
 const RARE: u64 = 14;
+
+/// No list is longer: two areas of 4,000 stripes of 64 bytes. A damaged header may call for more.
+const MOST_LIST: usize = 2 * 502 * ENTRY;
 
 fn some_call(r: &mut Random, drive: &Drive) -> Call {
     match r.range(0, 31) {
@@ -209,6 +237,14 @@ fn count(r: &mut Random) -> u32 {
     }
 }
 
+/// A list buffer full of junk for the work on these slots, of the right length most of the time.
+fn list(r: &mut Random, drive: &Drive, slots: &[u8]) -> Vec<u8> {
+    let right = sets::list_length(&drive.header(), slots).unwrap_or(ENTRY).min(MOST_LIST);
+    let others = [0, 1, right - 1, right + 1, right - ENTRY, right + ENTRY, right / 2, 2 * right];
+    let length = if r.chance(1, RARE) { r.pick(&others) } else { right };
+    r.bytes(length)
+}
+
 /// Bytes for the stripes of a slot, the last left out if `less` is 1.
 fn stripes(r: &mut Random, drive: &Drive, slot: u8, less: u64) -> Vec<u8> {
     let h = drive.header();
@@ -221,8 +257,8 @@ fn stripes(r: &mut Random, drive: &Drive, slot: u8, less: u64) -> Vec<u8> {
 fn add(r: &mut Random, drive: &Drive) -> Call {
     let slot = slot_that_is(r, drive, false);
     let (key, passphrase, salt, count) = (key(r, drive), new_passphrase(r), r.salt(), count(r));
-    let random = stripes(r, drive, slot, 1);
-    Call::Add { slot, key, passphrase, salt, count, random }
+    let (random, list) = (stripes(r, drive, slot, 1), list(r, drive, &[slot]));
+    Call::Add { slot, key, passphrase, salt, count, random, list }
 }
 
 fn open_slot(r: &mut Random, drive: &Drive) -> Call {
@@ -234,12 +270,14 @@ fn change(r: &mut Random, drive: &Drive) -> Call {
     let (from, to) = (slot_that_is(r, drive, true), slot_that_is(r, drive, false));
     let (old, new) = (passphrase_of(r, drive, from), new_passphrase(r));
     let (random, filler) = (stripes(r, drive, to, 1), stripes(r, drive, from, 0));
-    Call::Change { from, old, to, new, salt: r.salt(), count: count(r), random, filler }
+    let list = list(r, drive, &[to, from]);
+    Call::Change { from, old, to, new, salt: r.salt(), count: count(r), random, filler, list }
 }
 
 fn revoke(r: &mut Random, drive: &Drive) -> Call {
     let slot = slot_that_is(r, drive, true);
-    Call::Revoke { slot, filler: stripes(r, drive, slot, 0) }
+    let (filler, list) = (stripes(r, drive, slot, 0), list(r, drive, &[slot]));
+    Call::Revoke { slot, filler, list }
 }
 
 /// Most units that one call reads or writes: a payload may be a mebibyte long.

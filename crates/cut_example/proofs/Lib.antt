@@ -1,0 +1,2 @@
+pub mod CutsComputed
+pub mod CutExampleHolds

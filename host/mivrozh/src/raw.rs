@@ -282,8 +282,8 @@ pub fn write(image: &mut [u8], key: &[u8], first: u64, units: u64, buffer: &[u8]
 }
 
 /// A bound on the stack of a call, in bytes; `include/mivrozh.h` has the same. Measured by `tests/stack.rs` at 4,000
-/// stripes and a key of 64 bytes, the larger figure of both hashes: format 5,279, add 34,375, open by number 42,791,
-/// open 42,887, change 43,239, revoke 1,230, slots 1,006, slot details 1,358, read 33,623, write 33,623.
+/// stripes and a key of 64 bytes, the larger figure of both hashes: format 5,279, add 34,407, open by number 42,791,
+/// open 42,887, change 43,255, revoke 1,214, slots 1,006, slot details 1,358, read 33,623, write 33,623.
 pub const MOST_STACK: usize = 56 * 1024;
 
 /// How many bytes of stack are wiped after each call: as many, and 8 KiB for the frames around it.

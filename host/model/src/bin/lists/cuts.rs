@@ -2,8 +2,8 @@
 //! and others not, the header check passes, the other slots open, of a change the old passphrase or the new one opens, and the
 //! call once more makes the uncut image. Library and model are asked alike.
 //!
-//! Not every cut is tried: of the lists on long images one in `LONG` is cut, and of each area's writes one random set is done
-//! without the others.
+//! Not every cut is tried: of the random lists on long images one in `LONG` is cut, of the systematic calls only those of
+//! `sets::lengths` and `walks::cut_on_new_drive`, and of each area's writes one random set is done without the others.
 
 use crate::both::Both;
 use crate::drives::Drive;

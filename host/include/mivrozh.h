@@ -8,12 +8,13 @@
  *
  * RESULT. 0: accepted. Else the number of the first check that failed, in the order each call lists; then the image and every
  * lent buffer are as they were before. The 66 bytes of an opening and the arrays of the two screens are no such buffers: they are
- * the call's answer, beside the number, and every such call fills them, a refused one with zeros.
+ * the call's answer, beside the number, and every such call fills them, a refused one with zeros. Nor is `values`: every call that
+ * has it fills it with the number of HMAC values that it made, a refused one too, as COST says.
  *
  * WHAT THE CALLER OWES.
  *   - A pointer with a length n points to n readable bytes (writable ones where it is not const). Where the length is 0 any
- *     pointer will do, also NULL. A salt is 32 bytes, an `opened` 66, an array of a screen 8 entries: these pointers are never
- *     NULL.
+ *     pointer will do, also NULL. A salt is 32 bytes, an `opened` 66, an array of a screen 8 entries, `values` one number: these
+ *     pointers are never NULL.
  *   - A buffer that is written overlaps no other argument.
  *   - Nobody else changes what is lent while a call runs. The header is judged first and read again later, so memory that
  *     another program can write, such as a mapping of a file, is copied before it is lent.
@@ -43,10 +44,17 @@
  *   A cut revoke may leave a slot that is enabled and opens with no passphrase, and so may a cut change of its `from`; till
  * that is ended, the check for 18 counts that slot as another one that is enabled.
  *
- * COST. A derivation is PBKDF2 with HMAC of the drive's hash over a slot's iteration count, done for each 20 bytes of its
- * result with sha1 and for each 32 with sha256: 2 times the count for a key of 32 bytes and 4 times for one of 64 with sha1,
- * once and 2 times with sha256, once for the 20 bytes of the key's checksum. It is what takes the time. A check before 17
- * derives nothing.
+ * COST. What takes the time is PBKDF2 with HMAC of the drive's hash. A derivation of m bytes with count c makes c HMAC values for
+ * each D bytes of its result, D being 20 with sha1 and 32 with sha256, and for the rest: c times m / D, rounded up before the product,
+ * (uint64_t)c * ((m + D - 1) / D). That, N(c) and the sums below need 64 bits: 4 * c is too large for 32 from a c of 2^30 on. `values`
+ * gets the exact number that the call made, and each call says it by
+ *   C        of the key's checksum, 20 bytes: the header's checksum count
+ *   N(c)     of a slot's key, L bytes, with count c: 2 * c and 4 * c for an L of 32 and 64 with sha1, c and 2 * c with sha256
+ *   S(k)     of a trial of slot k, be it the right passphrase or not: N(count of slot k) + C
+ * A call that is refused with another number than 17 has made 0. All of it but which slot opens is known before the call, from the
+ * header: the checksum count is the four bytes from byte 164, most significant first, and mivrozh_slot_details gives the slots'
+ * counts. So a program can show how far an opening is: the sum of S(k) over the enabled slots is the most that a search makes, and
+ * what it makes where it is refused with 17. The largest number that there is, 171,798,691,800, is far from the type's end.
  *
  * NUMBERS. L is the length of the drive's master key, 32 or 64 bytes; n is a slot's number of stripes.
  *    1  image below 1,024 bytes or no multiple of 512
@@ -97,11 +105,13 @@ extern "C" {
  *   key      the new master key, L bytes
  *   salt     of the key's checksum; count: its iterations
  *   uuid     36 bytes without a zero at the end
+ *   values   of every call: the number of HMAC values that it made, as COST says
  * Refusals, in order: 1, 7, 8, 9, 10, 11, 12.
- * Cost: one derivation of 20 bytes.
+ * Cost: accepted `count`; refused 0.
  */
 uint8_t mivrozh_format(uint8_t *image, size_t image_len, uint8_t profile, uint32_t stripes, const uint8_t *key, size_t key_len,
-                       const uint8_t salt[32], uint32_t count, const uint8_t *uuid, size_t uuid_len);
+                       const uint8_t salt[32], uint32_t count, const uint8_t *uuid, size_t uuid_len,
+                       uint64_t *values);
 
 /*
  * Puts the master key under a passphrase into a free slot: splits it into n stripes, enciphers them into the slot's area
@@ -109,26 +119,29 @@ uint8_t mivrozh_format(uint8_t *image, size_t image_len, uint8_t profile, uint32
  *   random   (n - 1) * L bytes, the stripes but the last
  *   list     the sector writes, 516 * ((n * L + 511) / 512 + 2) bytes; as it was where refused
  * Refusals, in order: header, 13, 15 (slot enabled), 9, 14, 10, 16, 20, 17.
- * Cost: one derivation of 20 bytes with the header's count, and one of L bytes with `count`.
+ * Cost: accepted C + N(count); refused with 17 C; else 0.
  */
 uint8_t mivrozh_add(uint8_t *image, size_t image_len, uint8_t slot, const uint8_t *key, size_t key_len,
                     const uint8_t *passphrase, size_t passphrase_len, const uint8_t salt[32], uint32_t count,
-                    const uint8_t *random, size_t random_len, uint8_t *list, size_t list_len);
+                    const uint8_t *random, size_t random_len, uint8_t *list, size_t list_len, uint64_t *values);
 
 /*
  * Opens one slot: recovers the master key that its area holds under the passphrase.
  *   opened   slot, L, and the key followed by zeros to 64 bytes; 66 zeros where refused
  * Refusals, in order: header, 13, 14, 15 (slot disabled), 17.
- * Cost: one derivation of L bytes with the slot's count, and one of 20 bytes with the header's.
+ * Cost: accepted or refused with 17 S(slot); else 0.
  */
-uint8_t mivrozh_open_slot(const uint8_t *image, size_t image_len, uint8_t slot, const uint8_t *passphrase, size_t passphrase_len, uint8_t opened[66]);
+uint8_t mivrozh_open_slot(const uint8_t *image, size_t image_len, uint8_t slot, const uint8_t *passphrase, size_t passphrase_len,
+                          uint8_t opened[66], uint64_t *values);
 
 /*
  * Opens the first slot, from 1 to 8, that the passphrase opens. `opened` as above.
  * Refusals, in order: header, 14, 17 (no enabled slot opens, or none is enabled).
- * Cost: that of mivrozh_open_slot for each enabled slot up to the one that opens.
+ * Cost: accepted the sum of S(k) over the enabled slots up to the one that opens, that one too; refused with 17 the sum over all
+ * enabled slots; else 0.
  */
-uint8_t mivrozh_open(const uint8_t *image, size_t image_len, const uint8_t *passphrase, size_t passphrase_len, uint8_t opened[66]);
+uint8_t mivrozh_open(const uint8_t *image, size_t image_len, const uint8_t *passphrase, size_t passphrase_len, uint8_t opened[66],
+                     uint64_t *values);
 
 /*
  * Changes a passphrase: opens slot `from`, adds its key to the free slot `to` under the new passphrase, revokes `from`.
@@ -136,29 +149,29 @@ uint8_t mivrozh_open(const uint8_t *image, size_t image_len, const uint8_t *pass
  *   list     the sector writes of the add and then those of the revoke: as many bytes as the lists of both slots, each by its
  *            own n; as it was where refused
  * Refusals, in order: header, 13 (either slot), 15 (`from` disabled or `to` enabled), 14 (either passphrase), 10, 16, 20, 17.
- * Cost: two derivations of L bytes, with the count of `from` and with `count`, and one of 20 bytes with the header's.
+ * Cost: accepted S(from) + N(count); refused with 17 S(from); else 0.
  */
 uint8_t mivrozh_change(uint8_t *image, size_t image_len, uint8_t from, const uint8_t *old_passphrase, size_t old_len,
                        uint8_t to, const uint8_t *new_passphrase, size_t new_len, const uint8_t salt[32], uint32_t count,
                        const uint8_t *random, size_t random_len, const uint8_t *filler, size_t filler_len,
-                       uint8_t *list, size_t list_len);
+                       uint8_t *list, size_t list_len, uint64_t *values);
 
 /*
  * Revokes a slot: overwrites its area with the filler and disables it. No passphrase is asked for.
  *   filler   n * L bytes
  *   list     the sector writes, 516 * ((n * L + 511) / 512 + 2) bytes; as it was where refused
  * Refusals, in order: header, 13, 15 (slot disabled), 18, 16, 20.
- * Cost: no derivation.
+ * Cost: 0, accepted or refused.
  */
 uint8_t mivrozh_revoke(uint8_t *image, size_t image_len, uint8_t slot, const uint8_t *filler, size_t filler_len,
-                       uint8_t *list, size_t list_len);
+                       uint8_t *list, size_t list_len, uint64_t *values);
 
 /*
  * Shows which slots are enabled, and nothing else. No passphrase is asked for.
  *   enabled  for the slots 1 to 8, in this order: 1 where the slot is enabled, else 0; 8 zeros where refused
  * Two images that pass the header check give the same answer exactly when the same slots are enabled.
  * Refusals, in order: header.
- * Cost: no derivation.
+ * Cost: 0; there is no `values`.
  */
 uint8_t mivrozh_slots(const uint8_t *image, size_t image_len, uint8_t enabled[8]);
 
@@ -171,7 +184,7 @@ uint8_t mivrozh_slots(const uint8_t *image, size_t image_len, uint8_t enabled[8]
  *   stripes  n of each slot; zeros in all four where refused
  * Two images that pass the header check give the same answer exactly when they agree in these fields of all slots.
  * Refusals, in order: header.
- * Cost: no derivation.
+ * Cost: 0; there is no `values`.
  */
 uint8_t mivrozh_slot_details(const uint8_t *image, size_t image_len, uint8_t enabled[8], uint32_t counts[8], uint32_t starts[8], uint32_t stripes[8]);
 
@@ -180,14 +193,17 @@ uint8_t mivrozh_slot_details(const uint8_t *image, size_t image_len, uint8_t ena
  *   key      the master key that an opening gave
  *   buffer   512 * units bytes; as it was where refused
  * Refusals, in order: header, 9, 19, 20, 17.
- * Cost: one derivation of 20 bytes with the header's count for the whole call, then linear in `units`.
+ * Cost: accepted or refused with 17 C, for the whole call and also where `units` is 0; else 0. The rest of the time is linear in
+ * `units`.
  */
-uint8_t mivrozh_read(const uint8_t *image, size_t image_len, const uint8_t *key, size_t key_len, uint64_t first, uint64_t units, uint8_t *buffer, size_t buffer_len);
+uint8_t mivrozh_read(const uint8_t *image, size_t image_len, const uint8_t *key, size_t key_len, uint64_t first, uint64_t units,
+                     uint8_t *buffer, size_t buffer_len, uint64_t *values);
 
 /*
  * Enciphers and writes payload units. Arguments, refusals and cost as for mivrozh_read.
  */
-uint8_t mivrozh_write(uint8_t *image, size_t image_len, const uint8_t *key, size_t key_len, uint64_t first, uint64_t units, const uint8_t *buffer, size_t buffer_len);
+uint8_t mivrozh_write(uint8_t *image, size_t image_len, const uint8_t *key, size_t key_len, uint64_t first, uint64_t units,
+                      const uint8_t *buffer, size_t buffer_len, uint64_t *values);
 
 /*
  * Wipes the stack below its caller, as far as a call and the frames around it reach: MIVROZH_WIPED_STACK bytes, which must be

@@ -1,4 +1,5 @@
 // Add: the master key is split into a slot's area and enciphered there, and the slot's record enabled.
+use header::Outcome;
 use header::Refusal;
 ghost use mathlib.Core.Path.{_≡_};
 ghost use mathlib.Core.List.{List};
@@ -51,7 +52,8 @@ fn add_check(
 
 // Adds a passphrase for the master key: the slot's area is filled, its record enabled with this salt and count. The list has the
 // sector writes of it.
-// The contract rules out an add that is accepted and writes nothing, and one whose list has the bytes of the image before it.
+// The contract rules out an add that is accepted and writes nothing, one whose list has the bytes of the image before it, and one that
+// does not count its derivation.
 pub fn add(
     image: &mut [u8],
     slot: u8,
@@ -61,24 +63,37 @@ pub fn add(
     count: u32,
     random: &[u8],
     list: &mut [u8],
-) -> Refusal
+) -> Outcome
     ensures { λ r. ⌜ DoesListed built (now (image .entry))
         (add slot (now (key .entry)) (slotInput (now (passphrase .entry)) (now (salt .entry)) count (now (random .entry))) (now (list .entry)))
-        (number r) (now (image .exit)) (now (list .entry)) (now (list .exit)) ⌝ }
+        (number (r .refusal)) (now (image .exit)) (now (list .entry)) (now (list .exit)) (r .values) ⌝ }
 {
     let h = header::check::header_check(image);
     if header::number_of(h) != 0 {
-        return h;
+        return Outcome {
+            refusal: h,
+            values: 0,
+        };
     }
     let r = add_check(image, slot, key, passphrase, count, random, list);
     if header::number_of(r) != 0 {
-        return r;
+        return Outcome {
+            refusal: r,
+            values: 0,
+        };
     }
-    if !slots::key_matches(image, key) {
-        return Refusal::WrongKey;
+    let t = slots::key_matches(image, key);
+    if !t.matches {
+        return Outcome {
+            refusal: Refusal::WrongKey,
+            values: t.values,
+        };
     }
     let area = sectors::area_of(image, slot);
-    slots::enable_slot(image, slot, key, passphrase, salt, count, random);
+    let made = slots::enable_slot(image, slot, key, passphrase, salt, count, random);
     sectors::put_list(list, 0, image, area);
-    r
+    Outcome {
+        refusal: r,
+        values: t.values + made,
+    }
 }

@@ -32,7 +32,7 @@ rank opening = 1
 rank reading = 2
 rank listing = 3
 
-other : {A : Type 0} {k l : Kind} → k ≡ l → eqb (rank k) (rank l) ≡ false → A
+pub other : {A : Type 0} {k l : Kind} → k ≡ l → eqb (rank k) (rank l) ≡ false → A
 other {k = k} {l = l} e d = no (sym d ∙ eq-eqb (rank k) (rank l) (ap rank e))
 
 neither : {A : Type 0} {k l m : Kind} → (k ≡ l) ⊎ (k ≡ m) → eqb (rank k) (rank l) ≡ false → eqb (rank k) (rank m) ≡ false → A
@@ -75,17 +75,17 @@ module _ (f : Facts) (image : List ℕ) (r : ℕ) where
   only-key (write key u n buffer) b h = other h refl
 
   -- a read leaves the image, and its bytes are those that it leaves in the buffer
-  only-bytes : (c : Call) (b : Bool) → eqb r 0 ≡ b → kindOf c ≡ reading
-      → settle f c image r b ≡ record { said = answerIn (filled (settle f c image r b .said .code) (bufferAfter (settle f c image r b .said) (bufferOf c))); image = image }
+  only-bytes : (c : Call) (b : Bool) (v : ℕ) → eqb r 0 ≡ b → kindOf c ≡ reading
+      → settle f c image r b ≡ record { said = answerIn (filled (settle f c image r b .said .code) (bufferAfter (settle f c image r b .said) (bufferOf c)) v); image = image }
   unfolding settle answer refused noKey writes written bufferAfter answerIn
-  only-bytes (add k key x list) b e h = other h refl
-  only-bytes (change k passphrase to x filler list) b e h = other h refl
-  only-bytes (revoke k filler list) b e h = other h refl
-  only-bytes (openSlot k passphrase) b e h = other h refl
-  only-bytes (openAny passphrase) b e h = other h refl
-  only-bytes (read key u n buffer) true e h = refl
-  only-bytes (read key u n buffer) false e h = rw e
-  only-bytes (write key u n buffer) b e h = other h refl
+  only-bytes (add k key x list) b v e h = other h refl
+  only-bytes (change k passphrase to x filler list) b v e h = other h refl
+  only-bytes (revoke k filler list) b v e h = other h refl
+  only-bytes (openSlot k passphrase) b v e h = other h refl
+  only-bytes (openAny passphrase) b v e h = other h refl
+  only-bytes (read key u n buffer) true v e h = refl
+  only-bytes (read key u n buffer) false v e h = rw e
+  only-bytes (write key u n buffer) b v e h = other h refl
 
 -- ---- from what a function ensures to the step
 
@@ -95,13 +95,13 @@ module _ (image : List ℕ) (c : Call) where
 
   pub ensured-step : (r : Returned) → Ensured image c r → step built image c ≡ record { said = answerIn r; image = imageLeft image r }
   unfolding step answerIn
-  ensured-step (listed r after list) e =
+  ensured-step (listed r after list v) e =
       let s = only-number (factsOf built image) image decided c (eqb decided 0) (inl (e .0)) in
       λ j. record { said = (s ∙ ap number (sym (e .1 .code-is))) j; image = sym (e .1 .image-is) j }
-  ensured-step (changed r after) e =
+  ensured-step (changed r after v) e =
       let s = only-number (factsOf built image) image decided c (eqb decided 0) (inr (e .0)) in
       λ j. record { said = (s ∙ ap number (sym (e .1 .code-is))) j; image = sym (e .1 .image-is) j }
-  ensured-step (opened r slot keyLength key) e =
+  ensured-step (opened r slot keyLength key v) e =
       let s = only-key (factsOf built image) image decided c (eqb decided 0) (e .0) in
       let d = e .1 in
       λ j.
@@ -109,9 +109,9 @@ module _ (image : List ℕ) (c : Call) where
         said = record { code = sym (d .code-is) j; slot = sym (d .slot-is) j; keyLength = sym (d .length-is) j; key = sym (d .key-is) j; bytes = s .1 j };
         image = s .0 j;
       }
-  ensured-step (filled r after) e =
-      only-bytes (factsOf built image) image decided c (eqb decided 0) refl (e .0)
-      ∙ (λ j. record { said = answerIn (filled (sym (e .1 .code-is) j) (sym (e .1 .buffer-is) j)); image = image })
+  ensured-step (filled r after v) e =
+      only-bytes (factsOf built image) image decided c (eqb decided 0) v refl (e .0)
+      ∙ (λ j. record { said = answerIn (filled (sym (e .1 .code-is) j) (sym (e .1 .buffer-is) j) v); image = image })
 
 -- ---- from a trace to the run
 
@@ -127,8 +127,8 @@ trace-run image (c ∷ cs) (r ∷ rs) t =
 -- ---- the theorem, of what the functions return and leave
 
 -- a drive was formatted with some alignment A (before Wish 4 with 1), and the calls' functions are called on it one after the other
-module _ (A : ℕ) (l : 1 ≤ A) (m : A < 2 ^ 32) (a : FormatInput) (typed : FormatTyped a) (image after : List ℕ) (f : DoesFormat (aligned built A) a image 0 after)
-    (cs : List Call) (typed-calls : AllTyped cs) (rs : List Returned) (t : Trace after cs rs) where
+module _ (A : ℕ) (l : 1 ≤ A) (m : A < 2 ^ 32) (a : FormatInput) (typed : FormatTyped a) (image after : List ℕ) (v : ℕ)
+    (f : DoesFormat (aligned built A) a image 0 after v) (cs : List Call) (typed-calls : AllTyped cs) (rs : List Returned) (t : Trace after cs rs) where
   abbrev table : Table
   table = aligned built A
 
@@ -143,6 +143,6 @@ module _ (A : ℕ) (l : 1 ≤ A) (m : A < 2 ^ 32) (a : FormatInput) (typed : For
       record { image-is = sym (ap (λ r. r .image) trace-ends) ∙ d .image-is; answers-are = sym (ap (λ r. r .answers) trace-ends) ∙ d .answers-are }
 
 -- format's function accepts and leaves `after`, on the built alignment
-pub follows-ledger : (a : FormatInput) → FormatTyped a → (image after : List ℕ) → DoesFormat built a image 0 after → (cs : List Call) → AllTyped cs
+pub follows-ledger : (a : FormatInput) → FormatTyped a → (image after : List ℕ) (v : ℕ) → DoesFormat built a image 0 after v → (cs : List Call) → AllTyped cs
     → (rs : List Returned) → Trace after cs rs → FollowsLedger built a image after cs rs
 follows-ledger = follows-aligned alignment (omega arith) (omega arith)

@@ -1,3 +1,4 @@
 pub mod Bridge
 pub mod Listed
 pub mod Screened
+pub mod Counted

@@ -28,20 +28,20 @@ use Rattle.bridge.specs.Listed.{ListIs, ListFollows}
 use Rattle.bridge.proofs.Bridge.{trace-ends}
 
 -- the buffer of an accepted call has its list's bytes
-list-bytes : (z : List ℕ) (c : Call) (before after list : List ℕ) → DoesListed built z c 0 after before list → list ≡ encoded (listOf (factsOf built z) c z)
+list-bytes : (z : List ℕ) (c : Call) (before after list : List ℕ) (v : ℕ) → DoesListed built z c 0 after before list v → list ≡ encoded (listOf (factsOf built z) c z)
 unfolding listAfter
-list-bytes z c before after list d = d .list-is ∙ ap (λ (n : ℕ). cond (eqb n 0) (encoded (listOf (factsOf built z) c z)) before) (sym (d .code-is))
+list-bytes z c before after list v d = d .list-is ∙ ap (λ (n : ℕ). cond (eqb n 0) (encoded (listOf (factsOf built z) c z)) before) (sym (d .code-is))
 
 -- on any drive, also one that another tool wrote; the image that the function is lent has bytes, as its type says
 module _ (A : ℕ) (l : 1 ≤ A) (m : A < 2 ^ 32) (z : List ℕ) (bytes : Bytes z) (c : Call) (g : givesList c ≡ true) (t : Typed c) (before after list : List ℕ)
-    (d : DoesListed built z c 0 after before list) where
+    (v : ℕ) (d : DoesListed built z c 0 after before list v) where
   accepted : step (aligned built A) z c .said .code ≡ 0
   accepted = ap (λ (x : After). x .said .code) (step-aligned built A z c) ∙ sym (d .code-is)
 
   read : decoded (length list / entryBytes) list ≡ listOf (factsOf (aligned built A) z) c z
   unfolding factsOf
   read =
-      ap (λ (x : List ℕ). decoded (length x / entryBytes) x) (list-bytes z c before after list d)
+      ap (λ (x : List ℕ). decoded (length x / entryBytes) x) (list-bytes z c before after list v d)
       ∙ list-read-back (aligned built A) (aligned-lawful built A built-lawful l m) z bytes c g t accepted
 
   list-aligned : ListIs (aligned built A) z c after list
@@ -54,29 +54,29 @@ module _ (A : ℕ) (l : 1 ≤ A) (m : A < 2 ^ 32) (z : List ℕ) (bytes : Bytes 
             ∙ sym (d .image-is);
       }
 
-pub list-ensured : (z : List ℕ) → Bytes z → (c : Call) → givesList c ≡ true → Typed c → (before after list : List ℕ) → DoesListed built z c 0 after before list
+pub list-ensured : (z : List ℕ) → Bytes z → (c : Call) → givesList c ≡ true → Typed c → (before after list : List ℕ) (v : ℕ) → DoesListed built z c 0 after before list v
     → ListIs built z c after list
 list-ensured = list-aligned alignment (omega arith) (omega arith)
 
 -- after functions called one after the other on a drive that was formatted with any alignment, an add, a change or a revoke is accepted
-pub lists-aligned : (A : ℕ) → 1 ≤ A → A < 2 ^ 32 → (a : FormatInput) → FormatTyped a → (image after : List ℕ) → DoesFormat (aligned built A) a image 0 after
+pub lists-aligned : (A : ℕ) → 1 ≤ A → A < 2 ^ 32 → (a : FormatInput) → FormatTyped a → (image after : List ℕ) (v : ℕ) → DoesFormat (aligned built A) a image 0 after v
     → (cs : List Call) → AllTyped cs → (rs : List Returned) → Trace after cs rs → (c : Call) → givesList c ≡ true → Typed c → Bytes (lastLeft after rs)
-    → (end list : List ℕ) → Ensured (lastLeft after rs) c (listed 0 end list)
+    → (end list : List ℕ) (w : ℕ) → Ensured (lastLeft after rs) c (listed 0 end list w)
     → ListFollows (aligned built A) (lastLedger (aligned built A) a image cs) (lastLeft after rs) c end list
-lists-aligned A l m a typed image after f cs ts rs t c g tc bytes end list e =
+lists-aligned A l m a typed image after v f cs ts rs t c g tc bytes end list w e =
     let table = aligned built A in
     let z = lastLeft after rs in
-    let q : lastImage table a image cs ≡ z = ap (λ r. r .image) (trace-ends A l m a typed image after f cs ts rs t) in
-    let yes′ = accepted A l m z bytes c g tc (bufferOf c) end list (e .1) in
+    let q : lastImage table a image cs ≡ z = ap (λ r. r .image) (trace-ends A l m a typed image after v f cs ts rs t) in
+    let yes′ = accepted A l m z bytes c g tc (bufferOf c) end list w (e .1) in
     record {
-      list-is = list-aligned A l m z bytes c g tc (bufferOf c) end list (e .1);
+      list-is = list-aligned A l m z bytes c g tc (bufferOf c) end list w (e .1);
       safe = subst (λ (y : List ℕ). CutSafe table y (lastLedger table a image cs) c) q
           (cut-safe table (aligned-lawful built A built-lawful l m) a typed image (sym (f .code-is)) cs ts c g tc (ap (λ (y : List ℕ). step table y c .said .code) q ∙ yes′));
     }
 
 -- on the built alignment
-pub lists-follow : (a : FormatInput) → FormatTyped a → (image after : List ℕ) → DoesFormat built a image 0 after
+pub lists-follow : (a : FormatInput) → FormatTyped a → (image after : List ℕ) (v : ℕ) → DoesFormat built a image 0 after v
     → (cs : List Call) → AllTyped cs → (rs : List Returned) → Trace after cs rs → (c : Call) → givesList c ≡ true → Typed c → Bytes (lastLeft after rs)
-    → (end list : List ℕ) → Ensured (lastLeft after rs) c (listed 0 end list)
+    → (end list : List ℕ) (w : ℕ) → Ensured (lastLeft after rs) c (listed 0 end list w)
     → ListFollows built (lastLedger built a image cs) (lastLeft after rs) c end list
 lists-follow = lists-aligned alignment (omega arith) (omega arith)

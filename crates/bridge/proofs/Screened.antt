@@ -91,13 +91,13 @@ screens-follow table lawful a typed image yes′ cs t =
     }
 
 -- of what the functions return and leave, on a drive with any alignment
-pub shown-aligned : (A : ℕ) → 1 ≤ A → A < 2 ^ 32 → (a : FormatInput) → FormatTyped a → (image after : List ℕ) → DoesFormat (aligned built A) a image 0 after
+pub shown-aligned : (A : ℕ) → 1 ≤ A → A < 2 ^ 32 → (a : FormatInput) → FormatTyped a → (image after : List ℕ) (v : ℕ) → DoesFormat (aligned built A) a image 0 after v
     → (cs : List Call) → AllTyped cs → (rs : List Returned) → Trace after cs rs → ShownFollow (aligned built A) a image after cs rs
-shown-aligned A l m a typed image after f cs t rs trace =
+shown-aligned A l m a typed image after v f cs t rs trace =
     let table = aligned built A in
     let ok = aligned-lawful built A built-lawful l m in
     let s = screens-follow table ok a typed image (sym (f .code-is)) cs t in
-    let left = follows-aligned A l m a typed image after f cs t rs trace .image-is ∙ sym (demand-3 table ok a typed image (sym (f .code-is)) cs t .image-is) in
+    let left = follows-aligned A l m a typed image after v f cs t rs trace .image-is ∙ sym (demand-3 table ok a typed image (sym (f .code-is)) cs t .image-is) in
     let slots = ap (slotScreen built) left ∙ sym (screen-aligned enabledBit 0 built A _) ∙ s .slots-are in
     let details = ap (detailScreen built) left ∙ sym (screen-aligned detailsOf noDetails built A _) ∙ s .details-are in
     record {
@@ -106,6 +106,6 @@ shown-aligned A l m a typed image after f cs t rs trace =
     }
 
 -- and on one that format's function made
-pub shown-follow : (a : FormatInput) → FormatTyped a → (image after : List ℕ) → DoesFormat built a image 0 after → (cs : List Call) → AllTyped cs
+pub shown-follow : (a : FormatInput) → FormatTyped a → (image after : List ℕ) (v : ℕ) → DoesFormat built a image 0 after v → (cs : List Call) → AllTyped cs
     → (rs : List Returned) → Trace after cs rs → ShownFollow built a image after cs rs
 shown-follow = shown-aligned alignment (omega arith) (omega arith)

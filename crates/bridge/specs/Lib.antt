@@ -1,3 +1,4 @@
 pub mod Trace
 pub mod Listed
 pub mod Screened
+pub mod Counted

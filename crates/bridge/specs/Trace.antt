@@ -12,12 +12,12 @@ use Rattle.profiles.specs.Suites.{built}
 use Rattle.ledger.specs.Ledger.{ledgerImage}
 use Rattle.ledger.specs.Demand3.{ledgerAnswers, lastLedger}
 
--- what a function returned, and what it left in what it was lent
+-- what a function returned, with the number of HMAC values that it made, and what it left in what it was lent
 pub data Returned : Type 0 where
-  listed : (code : ℕ) (image list : List ℕ) → Returned  -- adding::add, changing::change, revoking::revoke
-  changed : (code : ℕ) (image : List ℕ) → Returned  -- payload::write
-  opened : (code slot keyLength : ℕ) (key : List ℕ) → Returned  -- opening::open_slot, opening::open
-  filled : (code : ℕ) (buffer : List ℕ) → Returned  -- payload::read
+  listed : (code : ℕ) (image list : List ℕ) (values : ℕ) → Returned  -- adding::add, changing::change, revoking::revoke
+  changed : (code : ℕ) (image : List ℕ) (values : ℕ) → Returned  -- payload::write
+  opened : (code slot keyLength : ℕ) (key : List ℕ) (values : ℕ) → Returned  -- opening::open_slot, opening::open
+  filled : (code : ℕ) (buffer : List ℕ) (values : ℕ) → Returned  -- payload::read
 
 -- calls that are lent the image to change it, with a buffer for the list of writes or without, that open it, and that read it into a buffer
 pub data Kind : Type 0 where
@@ -45,24 +45,31 @@ bufferOf (write key u n buffer) = []
 
 -- the `ensures` of the function of a call on an image
 abbrev pub Ensured : List ℕ → Call → Returned → Type 0
-Ensured image c (listed r after list) = (kindOf c ≡ listing) × DoesListed built image c r after (bufferOf c) list
-Ensured image c (changed r after) = (kindOf c ≡ changing) × Does built image c r after
-Ensured image c (opened r slot keyLength key) = (kindOf c ≡ opening) × DoesOpen built image c r slot keyLength key
-Ensured image c (filled r after) = (kindOf c ≡ reading) × DoesRead built image c r (bufferOf c) after
+Ensured image c (listed r after list v) = (kindOf c ≡ listing) × DoesListed built image c r after (bufferOf c) list v
+Ensured image c (changed r after v) = (kindOf c ≡ changing) × Does built image c r after v
+Ensured image c (opened r slot keyLength key v) = (kindOf c ≡ opening) × DoesOpen built image c r slot keyLength key v
+Ensured image c (filled r after v) = (kindOf c ≡ reading) × DoesRead built image c r (bufferOf c) after v
 
 -- openings and reads are lent the image shared, and leave it
 abbrev pub imageLeft : List ℕ → Returned → List ℕ
-imageLeft image (listed r after list) = after
-imageLeft image (changed r after) = after
-imageLeft image (opened r slot keyLength key) = image
-imageLeft image (filled r buffer) = image
+imageLeft image (listed r after list v) = after
+imageLeft image (changed r after v) = after
+imageLeft image (opened r slot keyLength key v) = image
+imageLeft image (filled r buffer v) = image
 
 -- the answer (01, "The answer that demand 3 compares") in what was returned
 unfoldable pub answerIn : Returned → Answer
-answerIn (listed r after list) = record { code = r; slot = 0; keyLength = 0; key = []; bytes = [] }
-answerIn (changed r after) = record { code = r; slot = 0; keyLength = 0; key = []; bytes = [] }
-answerIn (opened r slot keyLength key) = record { code = r; slot = slot; keyLength = keyLength; key = key; bytes = [] }
-answerIn (filled r buffer) = record { code = r; slot = 0; keyLength = 0; key = []; bytes = cond (eqb r 0) buffer [] }
+answerIn (listed r after list v) = record { code = r; slot = 0; keyLength = 0; key = []; bytes = [] }
+answerIn (changed r after v) = record { code = r; slot = 0; keyLength = 0; key = []; bytes = [] }
+answerIn (opened r slot keyLength key v) = record { code = r; slot = slot; keyLength = keyLength; key = key; bytes = [] }
+answerIn (filled r buffer v) = record { code = r; slot = 0; keyLength = 0; key = []; bytes = cond (eqb r 0) buffer [] }
+
+-- the number of values (02, Wish 6), which is no part of the answer
+unfoldable pub valuesIn : Returned → ℕ
+valuesIn (listed r after list v) = v
+valuesIn (changed r after v) = v
+valuesIn (opened r slot keyLength key v) = v
+valuesIn (filled r buffer v) = v
 
 -- calls one after the other, each with what it returned
 abbrev pub Trace : List ℕ → List Call → List Returned → Type 0

@@ -17,8 +17,12 @@ laid b₀ b₁ b₂ key s l h k e₁ e₂ =
     ∙ splice-all b₀ (s ∷ l ∷ key) (omega arith)
 
 -- what an opening returned, laid so, is the answer
-pub filled : (table : Table) (image : List ℕ) (c : Call) (code slot keyLength : ℕ) (key : List ℕ) (r : ℕ) (b : List ℕ) → DoesOpen table image c code slot keyLength key
-    → (r ≡ code) × (b ≡ slot ∷ keyLength ∷ key) → FillsOpened table image c r b
+pub filled : (table : Table) (image : List ℕ) (c : Call) (code slot keyLength : ℕ) (key : List ℕ) (values r : ℕ) (b : List ℕ) (v : ℕ)
+    → DoesOpen table image c code slot keyLength key values → (r ≡ code) × (b ≡ slot ∷ keyLength ∷ key) × (v ≡ values) → FillsOpened table image c r b v
 unfolding openedBytes
-filled table image c code slot keyLength key r b d e =
-    record { code-is = e .0 ∙ d .code-is; bytes-are = e .1 ∙ (λ j. d .slot-is j ∷ d .length-is j ∷ d .key-is j) }
+filled table image c code slot keyLength key values r b v d e =
+    record {
+      code-is = e .0 ∙ d .code-is;
+      bytes-are = e .1 ∙ (λ j. d .slot-is j ∷ d .length-is j ∷ d .key-is j);
+      values-are = e .2 ∙ d .values-are;
+    }

@@ -1,4 +1,6 @@
-// The calls for C: each wraps one call and has its contract. host/include/mivrozh.h declares them.
+// The calls for C: each wraps one call and has its contract. host/include/mivrozh.h declares them. How many values of HMAC a call made is laid in
+// its last argument (02, Wish 6).
+use header::Outcome;
 use header::PayloadUnit;
 use opening::Opened;
 use screens::Entry;
@@ -13,16 +15,31 @@ ghost use Rattle.profiles.specs.Suites.{built};
 ghost use Rattle.header.specs.Refusals.{number};
 ghost use Rattle.screens.specs.Screens.{slotScreen, detailScreen, Shows, ShowsArrays};
 
-// An opening as C has it: the number is returned, and slot, key length and the 64 key bytes are laid in the buffer.
+// What a call returns as C has it: the number is returned, and how many values it made is laid in `values`.
+fn lay_values(values: &mut u64, o: Outcome) -> u8
+    ensures { λ r. ⌜ (r ≡ number (o .refusal)) × (now (values .exit) ≡ o .values) ⌝ }
+{
+    let r = o.refusal;
+    *values = o.values;
+    header::number_of(r)
+}
+
+// An opening as C has it: the number is returned, slot, key length and the 64 key bytes are laid in the buffer, and the values as above.
 // These 66 bytes are the call's answer: zeros where it is refused (01: "refused, all of these are zero").
-fn lay_opened(opened: &mut [u8; 66], o: Opened) -> u8
-    ensures { λ r. ⌜ (r ≡ number (o .refusal)) × (now (opened .exit) ≡ o .slot ∷ o .«key_length» ∷ o .key) ⌝ }
+fn lay_opened(opened: &mut [u8; 66], values: &mut u64, o: Opened) -> u8
+    ensures { λ r. ⌜ (r ≡ number (o .refusal)) × (now (opened .exit) ≡ o .slot ∷ o .«key_length» ∷ o .key) × (now (values .exit) ≡ o .values) ⌝ }
 {
     let key = o.key;
-    let r = o.refusal;
+    let refusal = o.refusal;
     octets::copy_into(opened, 0, &[o.slot, o.key_length]);
     octets::copy_into(opened, 2, &key);
-    header::number_of(r)
+    lay_values(
+        values,
+        Outcome {
+            refusal,
+            values: o.values,
+        },
+    )
 }
 
 // The entries of the second screen, a field to each buffer of eight numbers.
@@ -57,11 +74,15 @@ pub extern "C" fn mivrozh_format(
     salt: &[u8; 32],
     count: u32,
     uuid: &[u8],
+    values: &mut u64,
 ) -> u8
     ensures { λ r. ⌜ DoesFormat built (formatInput profile stripes (now (key .entry)) (now (salt .entry)) count (now (uuid .entry)))
-        (now (image .entry)) r (now (image .exit)) ⌝ }
+        (now (image .entry)) r (now (image .exit)) (now (values .exit)) ⌝ }
 {
-    header::number_of(formatting::format(image, profile, stripes, key, salt, count, uuid))
+    lay_values(
+        values,
+        formatting::format(image, profile, stripes, key, salt, count, uuid),
+    )
 }
 
 #[no_mangle]
@@ -74,12 +95,16 @@ pub extern "C" fn mivrozh_add(
     count: u32,
     random: &[u8],
     list: &mut [u8],
+    values: &mut u64,
 ) -> u8
     ensures { λ r. ⌜ DoesListed built (now (image .entry))
         (add slot (now (key .entry)) (slotInput (now (passphrase .entry)) (now (salt .entry)) count (now (random .entry))) (now (list .entry)))
-        r (now (image .exit)) (now (list .entry)) (now (list .exit)) ⌝ }
+        r (now (image .exit)) (now (list .entry)) (now (list .exit)) (now (values .exit)) ⌝ }
 {
-    header::number_of(adding::add(image, slot, key, passphrase, salt, count, random, list))
+    lay_values(
+        values,
+        adding::add(image, slot, key, passphrase, salt, count, random, list),
+    )
 }
 
 #[no_mangle]
@@ -88,17 +113,23 @@ pub extern "C" fn mivrozh_open_slot(
     slot: u8,
     passphrase: &[u8],
     opened: &mut [u8; 66],
+    values: &mut u64,
 ) -> u8
-    ensures { λ r. ⌜ FillsOpened built (now (image .entry)) (openSlot slot (now (passphrase .entry))) r (now (opened .exit)) ⌝ }
+    ensures { λ r. ⌜ FillsOpened built (now (image .entry)) (openSlot slot (now (passphrase .entry))) r (now (opened .exit)) (now (values .exit)) ⌝ }
 {
-    lay_opened(opened, opening::open_slot(image, slot, passphrase))
+    lay_opened(opened, values, opening::open_slot(image, slot, passphrase))
 }
 
 #[no_mangle]
-pub extern "C" fn mivrozh_open(image: &[u8], passphrase: &[u8], opened: &mut [u8; 66]) -> u8
-    ensures { λ r. ⌜ FillsOpened built (now (image .entry)) (openAny (now (passphrase .entry))) r (now (opened .exit)) ⌝ }
+pub extern "C" fn mivrozh_open(
+    image: &[u8],
+    passphrase: &[u8],
+    opened: &mut [u8; 66],
+    values: &mut u64,
+) -> u8
+    ensures { λ r. ⌜ FillsOpened built (now (image .entry)) (openAny (now (passphrase .entry))) r (now (opened .exit)) (now (values .exit)) ⌝ }
 {
-    lay_opened(opened, opening::open(image, passphrase))
+    lay_opened(opened, values, opening::open(image, passphrase))
 }
 
 #[no_mangle]
@@ -113,31 +144,30 @@ pub extern "C" fn mivrozh_change(
     random: &[u8],
     filler: &[u8],
     list: &mut [u8],
+    values: &mut u64,
 ) -> u8
     ensures { λ r. ⌜ DoesListed built (now (image .entry)) (change from (now (old .entry)) to
         (slotInput (now (new .entry)) (now (salt .entry)) count (now (random .entry))) (now (filler .entry)) (now (list .entry)))
-        r (now (image .exit)) (now (list .entry)) (now (list .exit)) ⌝ }
+        r (now (image .exit)) (now (list .entry)) (now (list .exit)) (now (values .exit)) ⌝ }
 {
-    header::number_of(changing::change(
-        image,
-        from,
-        old,
-        to,
-        new,
-        salt,
-        count,
-        random,
-        filler,
-        list,
-    ))
+    lay_values(
+        values,
+        changing::change(image, from, old, to, new, salt, count, random, filler, list),
+    )
 }
 
 #[no_mangle]
-pub extern "C" fn mivrozh_revoke(image: &mut [u8], slot: u8, filler: &[u8], list: &mut [u8]) -> u8
+pub extern "C" fn mivrozh_revoke(
+    image: &mut [u8],
+    slot: u8,
+    filler: &[u8],
+    list: &mut [u8],
+    values: &mut u64,
+) -> u8
     ensures { λ r. ⌜ DoesListed built (now (image .entry)) (revoke slot (now (filler .entry)) (now (list .entry)))
-        r (now (image .exit)) (now (list .entry)) (now (list .exit)) ⌝ }
+        r (now (image .exit)) (now (list .entry)) (now (list .exit)) (now (values .exit)) ⌝ }
 {
-    header::number_of(revoking::revoke(image, slot, filler, list))
+    lay_values(values, revoking::revoke(image, slot, filler, list))
 }
 
 #[no_mangle]
@@ -147,11 +177,15 @@ pub extern "C" fn mivrozh_read(
     first: u64,
     units: u64,
     buffer: &mut [u8],
+    values: &mut u64,
 ) -> u8
     ensures { λ r. ⌜ DoesRead built (now (image .entry)) (read (now (key .entry)) first units (now (buffer .entry)))
-        r (now (buffer .entry)) (now (buffer .exit)) ⌝ }
+        r (now (buffer .entry)) (now (buffer .exit)) (now (values .exit)) ⌝ }
 {
-    header::number_of(payload::read(image, key, PayloadUnit(first), PayloadUnit(units), buffer))
+    lay_values(
+        values,
+        payload::read(image, key, PayloadUnit(first), PayloadUnit(units), buffer),
+    )
 }
 
 #[no_mangle]
@@ -161,10 +195,15 @@ pub extern "C" fn mivrozh_write(
     first: u64,
     units: u64,
     buffer: &[u8],
+    values: &mut u64,
 ) -> u8
-    ensures { λ r. ⌜ Does built (now (image .entry)) (write (now (key .entry)) first units (now (buffer .entry))) r (now (image .exit)) ⌝ }
+    ensures { λ r. ⌜ Does built (now (image .entry)) (write (now (key .entry)) first units (now (buffer .entry))) r (now (image .exit))
+        (now (values .exit)) ⌝ }
 {
-    header::number_of(payload::write(image, key, PayloadUnit(first), PayloadUnit(units), buffer))
+    lay_values(
+        values,
+        payload::write(image, key, PayloadUnit(first), PayloadUnit(units), buffer),
+    )
 }
 
 #[no_mangle]

@@ -1,13 +1,15 @@
 // Change: a slot is opened with its passphrase, its key added to a second slot under a new one, and the first revoked.
+use header::Outcome;
 use header::Refusal;
 ghost use mathlib.Core.Path.{_≡_};
 ghost use mathlib.Core.List.{List};
 ghost use mathlib.Core.Bool.{true, _&&_, not};
-ghost use Prim.Native.Nat.{ℕ, _+_};
+ghost use Prim.Native.Nat.{ℕ, _+_, _^_, _<_};
 ghost use Rattle.rules.specs.Checks.{first};
 ghost use Rattle.rules.specs.Facts.{slotOf, isEnabled, slotInput};
 ghost use Rattle.rules.specs.Calls.{change, earlyChecks, slotNumberOk, passphraseOk, keyOk, countOk, randomOk, fillerOk, listOk};
 ghost use Rattle.rules.specs.Sectors.{slotCount};
+ghost use Rattle.rules.specs.Costs.{derivationCost};
 ghost use Rattle.rules.specs.Contracts.{DoesListed};
 ghost use Rattle.profiles.specs.Suites.{built};
 ghost use Rattle.header.specs.Refusals.{number};
@@ -105,7 +107,7 @@ fn change_check(
 }
 
 // Adds the key to the second slot, then revokes the first. The list has the sector writes of both, each with the bytes of the image
-// as it then is.
+// as it then is. How many values of HMAC were made.
 fn move_key(
     image: &mut [u8],
     from: u8,
@@ -117,27 +119,29 @@ fn move_key(
     random: &[u8],
     filler: &[u8],
     list: &mut [u8],
-)
+) -> u64
     requires { ⌜ HeaderOk (now image) × (slotNumberOk from ≡ true) × (slotNumberOk to ≡ true) × (keyOk (factsIn (now image)) (now key) ≡ true)
         × (passphraseOk (now new) ≡ true) × (countOk (factsIn (now image)) count ≡ true)
         × (randomOk (factsIn (now image)) to (now random) ≡ true) × (fillerOk (factsIn (now image)) from (now filler) ≡ true)
         × (listOk (slotCount (factsIn (now image)) to + slotCount (factsIn (now image)) from) (now list) ≡ true) ⌝ }
-    ensures { λ _. ⌜ Moves (now (image .entry)) from to (now (key .entry)) (slotInput (now (new .entry)) (now (salt .entry)) count (now (random .entry)))
-        (now (filler .entry)) (now (image .exit)) (now (list .exit)) ⌝ }
+    ensures { λ r. ⌜ Moves (now (image .entry)) from to (now (key .entry)) (slotInput (now (new .entry)) (now (salt .entry)) count (now (random .entry)))
+        (now (filler .entry)) (now (image .exit)) (now (list .exit))
+        × (r ≡ derivationCost (factsIn (now (image .entry))) count) × (r < 2 ^ 34) ⌝ }
 {
     let to_area = sectors::area_of(image, to);
     let from_area = sectors::area_of(image, from);
     let half = sectors::list_bytes(image, to);
-    slots::enable_slot(image, to, key, new, salt, count, random);
+    let made = slots::enable_slot(image, to, key, new, salt, count, random);
     sectors::put_list(list, 0, image, to_area);
     slots::disable_slot(image, from, filler);
     sectors::put_list(list, half, image, from_area);
+    made
 }
 
 // Moves the master key from a slot that the old passphrase opens to a disabled slot, under the new passphrase. The list has the
 // sector writes of the add and then those of the revoke.
-// The contract rules out a change that keeps the first slot, one that says 17 after it has written, and one whose list begins with
-// the revoke's writes.
+// The contract rules out a change that keeps the first slot, one that says 17 after it has written, one whose list begins with the
+// revoke's writes, and one that counts its trial twice and not its derivation.
 pub fn change(
     image: &mut [u8],
     from: u8,
@@ -149,26 +153,35 @@ pub fn change(
     random: &[u8],
     filler: &[u8],
     list: &mut [u8],
-) -> Refusal
+) -> Outcome
     ensures { λ r. ⌜ DoesListed built (now (image .entry)) (change from (now (old .entry)) to
         (slotInput (now (new .entry)) (now (salt .entry)) count (now (random .entry))) (now (filler .entry)) (now (list .entry)))
-        (number r) (now (image .exit)) (now (list .entry)) (now (list .exit)) ⌝ }
+        (number (r .refusal)) (now (image .exit)) (now (list .entry)) (now (list .exit)) (r .values) ⌝ }
 {
     let h = header::check::header_check(image);
     if header::number_of(h) != 0 {
-        return h;
+        return Outcome {
+            refusal: h,
+            values: 0,
+        };
     }
     let r = change_check(image, from, old, to, new, count, random, filler, list);
     if header::number_of(r) != 0 {
-        return r;
+        return Outcome {
+            refusal: r,
+            values: 0,
+        };
     }
     let t = slots::try_slot(image, from, old);
     if !t.opens {
-        return Refusal::WrongKey;
+        return Outcome {
+            refusal: Refusal::WrongKey,
+            values: t.values,
+        };
     }
     let l = header::facts::key_bytes(image) as usize;
     let key = t.key;
-    move_key(
+    let made = move_key(
         image,
         from,
         to,
@@ -180,5 +193,8 @@ pub fn change(
         filler,
         list,
     );
-    r
+    Outcome {
+        refusal: r,
+        values: t.values + made,
+    }
 }

@@ -1,13 +1,13 @@
 // Drives made by cryptsetup, opened, read, damaged and changed in memory: one line for each thing tried, and ok or FAILED.
 // tools/make_drives.sh made them. And one that format made before Wish 4, whose payload begins right after its areas.
-mod changes;
-mod damage;
-mod listed;
-mod made;
-mod openings;
 mod payloads;
-mod report;
-mod shown;
+
+use slot_trials::changes;
+use slot_trials::made;
+use trials::damage;
+use trials::openings;
+use trials::report;
+use trials::shown;
 
 fn as_it_is(image: &[u8], drive: u64, key: &[u8], wrong: &[u8]) {
     shown::shows(

@@ -14,12 +14,14 @@ use Rattle.rules.specs.Header
 use Rattle.rules.specs.Calls
 use Rattle.rules.specs.Step
 use Rattle.rules.specs.Format
+use Rattle.rules.specs.Costs.{checksumCost, derivationCost, trialCost, enabledCost, searchCost, testCost, workCost, cost, costOn, formatCost}
 use Rattle.screens.specs.Screens
 use Rattle.ledger.specs.Drive
 use Rattle.ledger.specs.Ledger
+use Rattle.ledger.specs.Costs.{runCosts, ledgerCosts}
 use Rattle.example.specs.Small
 use Rattle.example.specs.Example
-use Rattle.example.specs.ExampleHolds.{Computed}
+use Rattle.example.specs.ExampleHolds.{Computed, NumbersComputed}
 
 -- unfoldable, so that `cut_example` computes with all that is unfolded here
 unfoldable pub computed : Computed
@@ -32,9 +34,9 @@ unfolding _⊕_ flatten zeros bigEndian be32At xors same part splice pieces inPi
     Format.headFields Format.slotRecord Format.headerOf Format.formatted Format.settleFormat Format.format Drive.mapFrom Drive.areaRoom Drive.recordOf Drive.roomOf
     Drive.imageParts Drive.driveImage Drive.contentFacts Drive.driveFacts Ledger.stateOf Ledger.countOf Ledger.saltOf Ledger.areaOf Ledger.sectorOf Ledger.contentOf
     Ledger.ledgerDrive Ledger.ledgerImage Ledger.ledgerFacts Ledger.setSlot Ledger.setSectors Ledger.writings Ledger.ledgerAfter Ledger.settleEntry Ledger.enter
-    Ledger.enterAll Ledger.sectorsIn Ledger.startLedger Small.byteSum Small.smallDerive Small.mask Small.masked Small.bumped Small.smallSuite Small.smallProfile
+    Ledger.enterAll Ledger.sectorsIn Ledger.startLedger Small.byteSum Small.smallDerive Small.smallMade Small.mask Small.masked Small.bumped Small.smallSuite Small.smallProfile
     Small.smallTable Example.bytes Example.theKey Example.otherKey Example.twinKey Example.shortKey Example.one Example.two Example.three Example.eight Example.wrong
-    Example.slotWith Example.stripe Example.input Example.image Example.gaveKey Example.gaveTwin Example.noOpen Example.said Example.answered Example.calls Example.expected
+    Example.slotWith Example.stripe Example.input Example.image Example.gaveKey Example.gaveTwin Example.noOpen Example.said Example.answered Example.calls Example.expected Example.numbers
     Example.slotBuffer Example.changeBuffer Example.endLedger Example.disabledRecord Example.enabledRecord Example.endArea2 Example.endArea8 Example.endBytes
     Example.shows Example.endSlots Example.endDetails Example.otherImage Example.fewerCalls Screens.screen Screens.enabledBit Screens.detailsOf Screens.noDetails
 computed =
@@ -52,3 +54,7 @@ computed =
       slots-before = refl;
       details-before = refl;
     }
+
+pub numbers-computed : NumbersComputed
+unfolding computed checksumCost derivationCost trialCost enabledCost searchCost testCost workCost cost costOn formatCost runCosts ledgerCosts
+numbers-computed = record { format-number = refl; numbers-on-image = refl; numbers-on-ledger = refl }

@@ -11,13 +11,14 @@ use Rattle.rules.specs.Step.{step}
 use Rattle.ledger.specs.Ledger.{ledgerImage}
 use Rattle.ledger.specs.Demand3.{FormatTyped, AllTyped, Demand3, answersGiven, lastImage, entryOf, sectorEntryOf, isAdd, addAccepted}
 use Rattle.ledger.proofs.General.{demand-3}
+use Rattle.ledger.proofs.CostLaws.{costs-follow}
 use Rattle.example.specs.Small.{smallProfile, smallTable}
 use Rattle.example.specs.Example.{bytes, theKey, otherKey, twinKey, shortKey, two, eight, slotWith, stripe, input, image, gaveKey}
 use Rattle.example.specs.Example.{gaveTwin, noOpen, said, answered, calls, expected, endLedger, otherImage, fewerCalls}
 use Rattle.example.specs.ExampleHolds.{ExampleHolds}
 use Rattle.example.proofs.SmallLaws.{small-lawful}
 use Rattle.example.proofs.TypedLaws.{format-typed, calls-typed}
-use Rattle.example.proofs.Computed.{computed}
+use Rattle.example.proofs.Computed.{computed, numbers-computed}
 
 -- ---- the hypotheses
 
@@ -67,6 +68,7 @@ example-holds =
       accepted = computed .accepted;
       answers-are = answers-are;
       image-is = theorem .image-is ∙ ap (ledgerImage smallTable) (computed .ledger-is) ∙ computed .image-on-ledger;
+      numbers-are = costs-follow smallTable small-lawful input input-typed image (computed .accepted) calls typed .values-are ∙ numbers-computed .numbers-on-ledger;
       opens-8 = opens-8;
       opens-2 = opens-2;
       reads-1 = reads-1;

@@ -1,4 +1,4 @@
--- An example: a list of calls on a drive of the small suite: each call with the answer that 01 asks for.
+-- An example: a list of calls on a drive of the small suite: each call with the answer that 01 asks for, and the number of Wish 6 of 02.
 use mathlib.Core.List.{List, [], _∷_, _++_, map, flatten}
 use Prim.Native.Nat.{ℕ, _*_}
 use lib.ListN.{replicate}
@@ -109,75 +109,75 @@ said r x = record { code = r; slot = 0; keyLength = 0; key = []; bytes = x }
 
 -- ---- the list
 
--- the calls, each with its answer
-unfoldable pub answered : List (Call × Answer)
+-- the calls, each with its answer and with the number of HMAC values that it makes: 8 for the checksum, 3 for each of a slot's count
+unfoldable pub answered : List (Call × Answer × ℕ)
 answered =
-    (openAny one, noOpen 17)  -- no slot is enabled
-    ∷ (openAny [], noOpen 14)
-    ∷ (add 9 theKey (slotWith one 1 2 stripe) slotBuffer, said 13 [])
-    ∷ (add 1 shortKey (slotWith one 1 2 stripe) slotBuffer, said 9 [])
-    ∷ (add 1 theKey (slotWith [] 1 2 stripe) slotBuffer, said 14 [])
-    ∷ (add 1 theKey (slotWith one 1 1 stripe) slotBuffer, said 10 [])
-    ∷ (add 1 theKey (slotWith one 1 2 []) slotBuffer, said 16 [])
-    ∷ (add 1 theKey (slotWith one 1 2 []) [], said 16 [])  -- 16 before 20
-    ∷ (add 1 theKey (slotWith one 1 2 stripe) [], said 20 [])
-    ∷ (add 1 theKey (slotWith one 1 2 stripe) changeBuffer, said 20 [])
-    ∷ (add 1 otherKey (slotWith one 1 2 stripe) (bytes 1547 0), said 20 [])  -- one byte short, and 20 before 17
-    ∷ (add 1 otherKey (slotWith one 1 2 stripe) slotBuffer, said 17 [])
-    ∷ (add 1 theKey (slotWith one 1 2 stripe) slotBuffer, said 0 [])  -- slot 1 is live
-    ∷ (add 1 theKey (slotWith one 1 2 stripe) slotBuffer, said 15 [])
-    ∷ (openSlot 1 one, gaveKey 1)
-    ∷ (openSlot 9 one, noOpen 13)
-    ∷ (openSlot 1 [], noOpen 14)
-    ∷ (openSlot 2 one, noOpen 15)
-    ∷ (openSlot 1 wrong, noOpen 17)
-    ∷ (openAny one, gaveKey 1)
-    ∷ (revoke 1 (bytes 32 4) slotBuffer, said 18 [])  -- the only slot
-    ∷ (change 1 one 0 (slotWith three 2 3 stripe) (bytes 32 4) changeBuffer, said 13 [])
-    ∷ (change 9 one 3 (slotWith three 2 3 stripe) (bytes 32 4) changeBuffer, said 13 [])
-    ∷ (change 1 one 1 (slotWith three 2 3 stripe) (bytes 32 4) changeBuffer, said 15 [])
-    ∷ (change 2 one 3 (slotWith three 2 3 stripe) (bytes 32 4) changeBuffer, said 15 [])
-    ∷ (change 1 [] 3 (slotWith three 2 3 stripe) (bytes 32 4) changeBuffer, said 14 [])
-    ∷ (change 1 one 3 (slotWith [] 2 3 stripe) (bytes 32 4) changeBuffer, said 14 [])
-    ∷ (change 1 one 3 (slotWith three 2 1 stripe) (bytes 32 4) changeBuffer, said 10 [])
-    ∷ (change 1 one 3 (slotWith three 2 3 (bytes 32 5)) (bytes 32 4) changeBuffer, said 16 [])
-    ∷ (change 1 one 3 (slotWith three 2 3 stripe) (bytes 16 4) changeBuffer, said 16 [])
-    ∷ (change 1 one 3 (slotWith three 2 3 stripe) (bytes 16 4) slotBuffer, said 16 [])  -- 16 before 20
-    ∷ (change 1 one 3 (slotWith three 2 3 stripe) (bytes 32 4) slotBuffer, said 20 [])
-    ∷ (change 1 wrong 3 (slotWith three 2 3 stripe) (bytes 32 4) (bytes 3095 0), said 20 [])  -- one byte short, and 20 before 17
-    ∷ (change 1 wrong 3 (slotWith three 2 3 stripe) (bytes 32 4) changeBuffer, said 17 [])
-    ∷ (change 1 one 3 (slotWith three 2 3 stripe) (bytes 32 4) changeBuffer, said 0 [])  -- slot 3 in place of slot 1
-    ∷ (openSlot 1 one, noOpen 15)
-    ∷ (openSlot 3 three, gaveKey 3)
-    ∷ (openAny one, noOpen 17)
-    ∷ (add 5 twinKey (slotWith two 6 4 stripe) slotBuffer, said 0 [])  -- another key with the checksum,
-    ∷ (openSlot 5 two, gaveTwin 5)  -- and the slot holds that key,
-    ∷ (change 5 two 2 (slotWith two 9 2 stripe) (bytes 32 11) changeBuffer, said 0 [])  -- and slot 2 after it
-    ∷ (openSlot 2 two, gaveTwin 2)
-    ∷ (write shortKey 1 1 (bytes 512 0x2A), said 9 [])
-    ∷ (write theKey 1 2 (bytes 1024 0x2A), said 19 [])  -- the payload has two units
-    ∷ (write theKey 1 1 (bytes 511 0x2A), said 20 [])
-    ∷ (write otherKey 1 1 (bytes 512 0x2A), said 17 [])
-    ∷ (read theKey 1 1 (bytes 512 0), said 0 (bytes 512 11))  -- 9 xor (1 + 1): what stood there before
-    ∷ (write theKey 1 1 (bytes 512 0x2A), said 0 [])
-    ∷ (read theKey 1 1 (bytes 512 0), said 0 (bytes 512 0x2A))  -- as it was written
-    ∷ (read theKey 0 2 (bytes 1024 0), said 0 (bytes 512 7 ++ bytes 512 0x2A))  -- 6 xor 1, and the unit written
-    ∷ (read theKey 2 0 [], said 0 [])  -- 0 units at the payload's end
-    ∷ (read shortKey 1 1 (bytes 512 0), said 9 [])
-    ∷ (read theKey 2 1 (bytes 512 0), said 19 [])
-    ∷ (read theKey 1 1 (bytes 513 0), said 20 [])
-    ∷ (read otherKey 1 1 (bytes 512 0), said 17 [])
-    ∷ (add 8 theKey (slotWith eight 7 2 stripe) slotBuffer, said 0 [])  -- slots 2, 3 and 8 are live
-    ∷ (revoke 0 (bytes 32 8) slotBuffer, said 13 [])
-    ∷ (revoke 3 (bytes 31 8) slotBuffer, said 16 [])
-    ∷ (revoke 3 (bytes 31 8) (bytes 1547 0), said 16 [])  -- 16 before 20
-    ∷ (revoke 3 (bytes 32 8) (bytes 1547 0), said 20 [])
-    ∷ (revoke 3 (bytes 32 8) [], said 20 [])
-    ∷ (revoke 3 (bytes 32 8) slotBuffer, said 0 [])  -- slots 2 and 8
-    ∷ (revoke 3 (bytes 32 8) slotBuffer, said 15 [])
-    ∷ (openAny three, noOpen 17)
-    ∷ (openAny eight, gaveKey 8)
-    ∷ (openAny two, gaveTwin 2)
+    (openAny one, noOpen 17, 0)  -- no slot is enabled
+    ∷ (openAny [], noOpen 14, 0)
+    ∷ (add 9 theKey (slotWith one 1 2 stripe) slotBuffer, said 13 [], 0)
+    ∷ (add 1 shortKey (slotWith one 1 2 stripe) slotBuffer, said 9 [], 0)
+    ∷ (add 1 theKey (slotWith [] 1 2 stripe) slotBuffer, said 14 [], 0)
+    ∷ (add 1 theKey (slotWith one 1 1 stripe) slotBuffer, said 10 [], 0)
+    ∷ (add 1 theKey (slotWith one 1 2 []) slotBuffer, said 16 [], 0)
+    ∷ (add 1 theKey (slotWith one 1 2 []) [], said 16 [], 0)  -- 16 before 20
+    ∷ (add 1 theKey (slotWith one 1 2 stripe) [], said 20 [], 0)
+    ∷ (add 1 theKey (slotWith one 1 2 stripe) changeBuffer, said 20 [], 0)
+    ∷ (add 1 otherKey (slotWith one 1 2 stripe) (bytes 1547 0), said 20 [], 0)  -- one byte short, and 20 before 17
+    ∷ (add 1 otherKey (slotWith one 1 2 stripe) slotBuffer, said 17 [], 8)
+    ∷ (add 1 theKey (slotWith one 1 2 stripe) slotBuffer, said 0 [], 14)  -- slot 1 is live
+    ∷ (add 1 theKey (slotWith one 1 2 stripe) slotBuffer, said 15 [], 0)
+    ∷ (openSlot 1 one, gaveKey 1, 14)
+    ∷ (openSlot 9 one, noOpen 13, 0)
+    ∷ (openSlot 1 [], noOpen 14, 0)
+    ∷ (openSlot 2 one, noOpen 15, 0)
+    ∷ (openSlot 1 wrong, noOpen 17, 14)
+    ∷ (openAny one, gaveKey 1, 14)
+    ∷ (revoke 1 (bytes 32 4) slotBuffer, said 18 [], 0)  -- the only slot
+    ∷ (change 1 one 0 (slotWith three 2 3 stripe) (bytes 32 4) changeBuffer, said 13 [], 0)
+    ∷ (change 9 one 3 (slotWith three 2 3 stripe) (bytes 32 4) changeBuffer, said 13 [], 0)
+    ∷ (change 1 one 1 (slotWith three 2 3 stripe) (bytes 32 4) changeBuffer, said 15 [], 0)
+    ∷ (change 2 one 3 (slotWith three 2 3 stripe) (bytes 32 4) changeBuffer, said 15 [], 0)
+    ∷ (change 1 [] 3 (slotWith three 2 3 stripe) (bytes 32 4) changeBuffer, said 14 [], 0)
+    ∷ (change 1 one 3 (slotWith [] 2 3 stripe) (bytes 32 4) changeBuffer, said 14 [], 0)
+    ∷ (change 1 one 3 (slotWith three 2 1 stripe) (bytes 32 4) changeBuffer, said 10 [], 0)
+    ∷ (change 1 one 3 (slotWith three 2 3 (bytes 32 5)) (bytes 32 4) changeBuffer, said 16 [], 0)
+    ∷ (change 1 one 3 (slotWith three 2 3 stripe) (bytes 16 4) changeBuffer, said 16 [], 0)
+    ∷ (change 1 one 3 (slotWith three 2 3 stripe) (bytes 16 4) slotBuffer, said 16 [], 0)  -- 16 before 20
+    ∷ (change 1 one 3 (slotWith three 2 3 stripe) (bytes 32 4) slotBuffer, said 20 [], 0)
+    ∷ (change 1 wrong 3 (slotWith three 2 3 stripe) (bytes 32 4) (bytes 3095 0), said 20 [], 0)  -- one byte short, and 20 before 17
+    ∷ (change 1 wrong 3 (slotWith three 2 3 stripe) (bytes 32 4) changeBuffer, said 17 [], 14)
+    ∷ (change 1 one 3 (slotWith three 2 3 stripe) (bytes 32 4) changeBuffer, said 0 [], 23)  -- slot 3 in place of slot 1
+    ∷ (openSlot 1 one, noOpen 15, 0)
+    ∷ (openSlot 3 three, gaveKey 3, 17)
+    ∷ (openAny one, noOpen 17, 17)
+    ∷ (add 5 twinKey (slotWith two 6 4 stripe) slotBuffer, said 0 [], 20)  -- another key with the checksum,
+    ∷ (openSlot 5 two, gaveTwin 5, 20)  -- and the slot holds that key,
+    ∷ (change 5 two 2 (slotWith two 9 2 stripe) (bytes 32 11) changeBuffer, said 0 [], 26)  -- and slot 2 after it
+    ∷ (openSlot 2 two, gaveTwin 2, 14)
+    ∷ (write shortKey 1 1 (bytes 512 0x2A), said 9 [], 0)
+    ∷ (write theKey 1 2 (bytes 1024 0x2A), said 19 [], 0)  -- the payload has two units
+    ∷ (write theKey 1 1 (bytes 511 0x2A), said 20 [], 0)
+    ∷ (write otherKey 1 1 (bytes 512 0x2A), said 17 [], 8)
+    ∷ (read theKey 1 1 (bytes 512 0), said 0 (bytes 512 11), 8)  -- 9 xor (1 + 1): what stood there before
+    ∷ (write theKey 1 1 (bytes 512 0x2A), said 0 [], 8)
+    ∷ (read theKey 1 1 (bytes 512 0), said 0 (bytes 512 0x2A), 8)  -- as it was written
+    ∷ (read theKey 0 2 (bytes 1024 0), said 0 (bytes 512 7 ++ bytes 512 0x2A), 8)  -- 6 xor 1, and the unit written
+    ∷ (read theKey 2 0 [], said 0 [], 8)  -- 0 units at the payload's end
+    ∷ (read shortKey 1 1 (bytes 512 0), said 9 [], 0)
+    ∷ (read theKey 2 1 (bytes 512 0), said 19 [], 0)
+    ∷ (read theKey 1 1 (bytes 513 0), said 20 [], 0)
+    ∷ (read otherKey 1 1 (bytes 512 0), said 17 [], 8)
+    ∷ (add 8 theKey (slotWith eight 7 2 stripe) slotBuffer, said 0 [], 14)  -- slots 2, 3 and 8 are live
+    ∷ (revoke 0 (bytes 32 8) slotBuffer, said 13 [], 0)
+    ∷ (revoke 3 (bytes 31 8) slotBuffer, said 16 [], 0)
+    ∷ (revoke 3 (bytes 31 8) (bytes 1547 0), said 16 [], 0)  -- 16 before 20
+    ∷ (revoke 3 (bytes 32 8) (bytes 1547 0), said 20 [], 0)
+    ∷ (revoke 3 (bytes 32 8) [], said 20 [], 0)
+    ∷ (revoke 3 (bytes 32 8) slotBuffer, said 0 [], 0)  -- slots 2 and 8
+    ∷ (revoke 3 (bytes 32 8) slotBuffer, said 15 [], 0)
+    ∷ (openAny three, noOpen 17, 28)
+    ∷ (openAny eight, gaveKey 8, 28)
+    ∷ (openAny two, gaveTwin 2, 14)
     ∷ []
 
 -- the calls alone
@@ -187,6 +187,10 @@ calls = map (λ w. w .0) answered
 -- the answers alone
 unfoldable pub expected : List Answer
 expected = map (λ w. w .1) answered
+
+-- the numbers alone
+unfoldable pub numbers : List ℕ
+numbers = map (λ w. w .2) answered
 
 -- ---- the end of the list
 

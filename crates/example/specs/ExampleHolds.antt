@@ -7,11 +7,14 @@ use Rattle.rules.specs.Lawful.{LawfulTable}
 use Rattle.rules.specs.Calls.{openSlot, read}
 use Rattle.rules.specs.Step.{step}
 use Rattle.rules.specs.Format.{format}
+use Rattle.rules.specs.Costs.{formatCost}
 use Rattle.screens.specs.Screens.{slotScreen, detailScreen}
 use Rattle.ledger.specs.Ledger.{ledgerImage}
 use Rattle.ledger.specs.Demand3.{FormatTyped, AllTyped, SomeLive, answersGiven, lastImage, ledgerAnswers, lastLedger}
+use Rattle.ledger.specs.Costs.{valuesGiven, ledgerValues}
 use Rattle.example.specs.Small.{smallTable}
-use Rattle.example.specs.Example.{bytes, theKey, two, eight, input, image, calls, expected, gaveKey, gaveTwin, said, endLedger, endBytes, shows, endSlots, endDetails, otherImage, fewerCalls}
+use Rattle.example.specs.Example.{bytes, theKey, two, eight, input, image, calls, expected, numbers, gaveKey, gaveTwin}
+use Rattle.example.specs.Example.{said, endLedger, endBytes, shows, endSlots, endDetails, otherImage, fewerCalls}
 
 -- computed, with no use of the theorem
 pub record Computed : Type 0 where
@@ -32,6 +35,12 @@ pub record Computed : Type 0 where
   pub slots-before : slotScreen smallTable image ≡ record { code = 2; entries = replicate 8 0 }
   pub details-before : detailScreen smallTable image ≡ record { code = 2; entries = replicate 8 (shows 0 0 0 0) }
 
+-- the numbers of Wish 6 of 02, computed too
+pub record NumbersComputed : Type 0 where
+  pub format-number : formatCost smallTable input image ≡ 8
+  pub numbers-on-image : valuesGiven smallTable input image calls ≡ numbers
+  pub numbers-on-ledger : ledgerValues smallTable input image calls ≡ numbers
+
 -- the theorem's hypotheses are met, and what it says then
 pub record ExampleHolds : Type 0 where
   pub lawful : LawfulTable smallTable
@@ -41,6 +50,8 @@ pub record ExampleHolds : Type 0 where
   -- the answers on the image are the expected ones, and the last image is the ledger's
   pub answers-are : answersGiven smallTable input image calls ≡ expected
   pub image-is : lastImage smallTable input image calls ≡ endBytes
+  -- and the ledger foretells how many values each call makes
+  pub numbers-are : valuesGiven smallTable input image calls ≡ numbers
   -- slot 8 opens with the master key, slot 2 with the other key that has its checksum
   pub opens-8 : step smallTable (lastImage smallTable input image calls) (openSlot 8 eight) .said ≡ gaveKey 8
   pub opens-2 : step smallTable (lastImage smallTable input image calls) (openSlot 2 two) .said ≡ gaveTwin 2

@@ -12,6 +12,7 @@ use Rattle.octets.specs.Octets.{xors, zeros}
 use Rattle.octets.specs.Pieces.{pieces, inPieces}
 use Rattle.octets.proofs.XorLaws.{zero-⊕}
 use Rattle.gf256.proofs.Figures.{sub-0x00, xtime-0x80}
+use Rattle.pbkdf2.specs.Pbkdf2.{valuesMade}
 use Rattle.suite.specs.Split.{running, split, mergeFrom, merge}
 use Rattle.xts.proofs.Figures.{double-first, double-last}
 use Rattle.rules.specs.Checks.{Check, first}
@@ -20,7 +21,7 @@ use Rattle.rules.specs.Layout.{areaSectors, roundUp, areaStart, areasEnd, paylo
 use Rattle.rules.specs.Header.{sizeOk}
 use Rattle.rules.specs.Format.{FormatInput, formatChecks, settleFormat, format}
 use Rattle.profiles.specs.Rows.{hashOf, aesXtsRow, rows}
-use Rattle.profiles.specs.Suites.{alignment, built}
+use Rattle.profiles.specs.Suites.{alignment, aesXts, suiteOf, built}
 use Rattle.screens.specs.Screens.{enabledBit, detailsOf, noDetails}
 use Rattle.ledger.specs.Ledger.{startLedger, setSlot}
 use Rattle.ledger.proofs.LayoutLaws.{end-is, end-most}
@@ -28,6 +29,7 @@ use Rattle.bridge.specs.Screened.{liveBit, ledgerSlots}
 use Rattle.figures.specs.Figures.{Plain, pieceLengths, Figures}
 use Rattle.figures.proofs.ScreenFigures.{after-2, fresh-slots, fresh-details, added-slots}
 use Rattle.figures.proofs.ListFigures.{entries, list-bytes, add-sectors, change-sectors}
+use Rattle.figures.proofs.CostFigures.{largest-trials, trials-most, values-most, format-values-most}
 
 -- what is left to check of plain arguments, where the image has n bytes
 abbrev lengthChecks : ℕ → List Check
@@ -113,7 +115,7 @@ module _ (H : List ℕ → List ℕ) (key : List ℕ) where
   one-merged = rw (zero-mul (length key)) (zeros-xors key)
 
 pub figures : Figures
-unfolding areaSectors roundUp areaStart areasEnd payloadStart first startLedger ledgerSlots setSlot liveBit noDetails
+unfolding areaSectors roundUp areaStart areasEnd payloadStart first startLedger ledgerSlots setSlot liveBit noDetails suiteOf aesXts hashOf valuesMade
 figures =
     record {
       sectors-32 = refl;
@@ -166,4 +168,14 @@ figures =
       entries-n-17 = λ f k l n. entries f k 17 l n;
       entries-n-4000 = λ f k l n. entries f k 4000 l n;
       bytes-n-4000 = list-bytes;
+      made-20-20 = refl;
+      made-20-32 = refl;
+      made-20-64 = refl;
+      made-32-32 = refl;
+      made-32-64 = refl;
+      made-before-the-product = refl;
+      largest-trials = largest-trials;
+      trials-most = trials-most;
+      values-most = values-most;
+      format-values-most = format-values-most;
     }

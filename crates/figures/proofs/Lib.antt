@@ -1,3 +1,4 @@
 pub mod ListFigures
+pub mod CostFigures
 pub mod Figures
 pub mod ScreenFigures

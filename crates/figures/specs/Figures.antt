@@ -1,11 +1,11 @@
--- The figures of 01 ("Figures to check") and of Wishes 1, 2, 4 and 5 of 02, as statements over the definitions that the calls' contracts cite.
+-- The figures of 01 ("Figures to check") and of Wishes 1, 2, 4, 5 and 6 of 02, as statements over the definitions that the calls' contracts cite.
 use mathlib.Core.Path.{_≡_}
 use mathlib.Core.List.{List, [], _∷_, _++_, map}
 use mathlib.Core.Bool.{true, false, _||_}
-use Prim.Native.Nat.{ℕ, _+_, _*_, _≤_}
+use Prim.Native.Nat.{ℕ, _+_, _-_, _*_, _^_, _≤_, _<_}
 use lib.Dec.{eqb}
 use lib.ListN.{length, replicate}
-use Rattle.octets.specs.Octets.{zeros, same}
+use Rattle.octets.specs.Octets.{Bytes, zeros, same}
 use Rattle.octets.specs.Pieces.{inPieces}
 use Rattle.octets.specs.Splice.{part}
 use Rattle.hash.specs.Hash.{digestOf}
@@ -13,13 +13,14 @@ use Rattle.gf256.specs.Field.{xtime, sub}
 use Rattle.suite.specs.Split.{split, merge}
 use Rattle.xts.specs.Xts.{double}
 use Rattle.rules.specs.Layout.{areaSectors, areaStart, areasEnd, payloadStart, slots}
-use Rattle.rules.specs.Facts.{Facts, SlotInput, slotOf, factsOf}
+use Rattle.rules.specs.Facts.{Facts, SlotInput, isEnabled, slotOf, factsOf}
 use Rattle.rules.specs.Header.{magic, sizeOk}
 use Rattle.rules.specs.Sectors.{encoded, areaCount, slotList}
 use Rattle.rules.specs.Calls.{Call, add, change}
 use Rattle.rules.specs.Step.{After, step}
 use Rattle.rules.specs.Lists.{listOf}
 use Rattle.rules.specs.Format.{FormatInput, printable, format}
+use Rattle.rules.specs.Costs.{trialsCost, costOn, formatCost}
 use Rattle.profiles.specs.Rows.{hashOf}
 use Rattle.profiles.specs.Suites.{suiteOf, alignment, built}
 use Rattle.screens.specs.Screens.{slotScreen, detailScreen}
@@ -59,6 +60,14 @@ listNumbers a image cs c = let z = lastImage built a image cs in map (λ w. w .0
 -- how long the pieces are into which H cuts x, with the hash of profile k
 abbrev pub pieceLengths : ℕ → List ℕ → List ℕ
 pieceLengths k x = inPieces (digestOf (hashOf k) .size) (λ i piece. length piece ∷ []) 0 x
+
+-- eight enabled slots of profile 2 (SHA-1, 64 key bytes), and each count the largest that four bytes hold
+pub record Largest (f : Facts) : Type 0 where
+  pub suite-is : f .suite ≡ suiteOf 2
+  pub key-is : f .profile .keyBytes ≡ 64
+  pub checksum-is : f .checksumCount ≡ 2 ^ 32 - 1
+  pub enabled-all : (k : ℕ) → 1 ≤ k → k ≤ 8 → isEnabled (slotOf f k) ≡ true
+  pub counts-are : (k : ℕ) → 1 ≤ k → k ≤ 8 → slotOf f k .count ≡ 2 ^ 32 - 1
 
 -- the one table
 pub record Figures : Type 0 where
@@ -145,3 +154,15 @@ pub record Figures : Type 0 where
   pub entries-n-4000 : (f : Facts) (k : ℕ) → f .profile .keyBytes ≡ 32 → slotOf f k .stripes ≡ 4000 → areaCount f k ≡ 250
   pub bytes-n-4000 : (f : Facts) (k : ℕ) → f .profile .keyBytes ≡ 32 → slotOf f k .stripes ≡ 4000
       → (image : List ℕ) → 1024 ≤ length image → (slotOf f k .start + 250) * 512 ≤ length image → length (encoded (slotList f k image)) ≡ 130032
+  -- 02, "Wish 6": "c × m / D of them, the quotient rounded up before the product"; D is 20 in profiles 1 and 2, 32 in profiles 3 and 4
+  pub made-20-20 : suiteOf 1 .made 1000 20 ≡ 1000
+  pub made-20-32 : suiteOf 1 .made 1000 32 ≡ 2000
+  pub made-20-64 : suiteOf 2 .made 1000 64 ≡ 4000
+  pub made-32-32 : suiteOf 3 .made 1000 32 ≡ 1000
+  pub made-32-64 : suiteOf 4 .made 1000 64 ≡ 2000
+  pub made-before-the-product : suiteOf 1 .made 1001 32 ≡ 2002
+  -- the largest sum of trials, which no drive's exceeds, and so every number of a call is one of 64 bits
+  pub largest-trials : (f : Facts) → Largest f → trialsCost f 1 8 ≡ 171798691800
+  pub trials-most : (image : List ℕ) → Bytes image → trialsCost (factsOf built image) 1 8 ≤ 171798691800
+  pub values-most : (image : List ℕ) → Bytes image → (c : Call) → Typed c → costOn built image c < 2 ^ 64
+  pub format-values-most : (a : FormatInput) (image : List ℕ) → FormatTyped a → formatCost built a image < 2 ^ 64

@@ -1,4 +1,4 @@
--- Format's checks: one more that passes, and what accepted ones assure; number and image of the call; the header's parts joined; the image after.
+-- Format's checks: one more that passes, and what accepted ones assure; number, image and cost of the call; the header's parts joined; the image after.
 use mathlib.Core.Path.{_≡_, refl, sym, ap, ap₂, _∙_}
 use mathlib.Core.List.{List, _++_, map, flatten}
 use mathlib.Core.Bool.{Bool, true, false, cond}
@@ -16,13 +16,14 @@ use Rattle.octets.proofs.OctetsLaws.{length-zeros, length-padded}
 use Rattle.octets.proofs.PartsLaws.{Widths, flatten-append, length-flatten}
 use Rattle.hash.specs.declared.Hash.{Hash}
 use Rattle.hash.specs.Hash.{digestOf}
-use Rattle.pbkdf2.specs.Pbkdf2.{pbkdf2}
+use Rattle.pbkdf2.specs.Pbkdf2.{pbkdf2, valuesMade}
 use Rattle.rules.specs.Checks.{first}
 use Rattle.rules.specs.Profiles.{profileAt, known}
 use Rattle.rules.specs.Layout.{payloadStart, slots}
 use Rattle.rules.specs.Facts.{checksumOf}
 use Rattle.rules.specs.Header.{sizeOk}
 use Rattle.rules.specs.Format.{FormatInput, payloadStartOf, printable, formatChecks, headFields, headerOf, formatted, settleFormat, format}
+use Rattle.rules.specs.Costs.{formatCost}
 use Rattle.rules.specs.Contracts.{DoesFormat}
 use Rattle.rules.proofs.ChecksLaws.{Pass, accepted}
 use Rattle.rules.proofs.RowLaws.{lawful-row}
@@ -70,11 +71,11 @@ module _ (a : FormatInput) (image : List ℕ) where
   fit z = fit-of (accepted (formatChecks built a image) refl z)
 
   -- format settled, by whether its number is 0
-  pub settled : (r : ℕ) (b : Bool) (after : List ℕ) → r ≡ first (formatChecks built a image) → eqb r 0 ≡ b → after ≡ cond b (formatted built a image) image
-      → DoesFormat built a image r after
-  unfolding format settleFormat
-  settled r true after e z w = record { code-is = rw (← e, z) (eqb-true r 0 z); image-is = rw (← e, z) w }
-  settled r false after e z w = record { code-is = rw (← e, z); image-is = rw (← e, z) w }
+  pub settled : (r : ℕ) (b : Bool) (after : List ℕ) (v : ℕ) → r ≡ first (formatChecks built a image) → eqb r 0 ≡ b → after ≡ cond b (formatted built a image) image
+      → v ≡ cond b (built .suiteOf (a .profile) .made (a .count) 20) 0 → DoesFormat built a image r after v
+  unfolding format settleFormat formatCost
+  settled r true after v e z w m = record { code-is = rw (← e, z) (eqb-true r 0 z); image-is = rw (← e, z) w; values-are = rw (← e, z) m }
+  settled r false after v e z w m = record { code-is = rw (← e, z); image-is = rw (← e, z) w; values-are = rw (← e, z) m }
 
 -- ---- the header's parts joined
 
@@ -97,6 +98,11 @@ header-is a r is v t u h eh sum h₁ h₂ h₃ s e e₁ e₂ e₃ =
     (length-flatten (names r) nameWidths v) (length-flatten ms numberWidths w) (length-records (a .stripes) (r .«key_bytes»)) e₁ e₂ e₃
     ∙ ap (λ (x : List ℕ). x ++ records) (sym (flatten-append (names r) ms))
     ∙ cc
+
+-- its checksum makes the values of the profile's suite
+pub suite-made : (profile count v : ℕ) (h : Hash) → h ≡ hashOf profile → v ≡ valuesMade (digestOf h .size) count 20 → v ≡ built .suiteOf profile .made count 20
+unfolding suiteOf aesXts
+suite-made profile count v h eh e = e ∙ ap (λ (x : Hash). valuesMade (digestOf x .size) count 20) eh
 
 -- ---- the image after
 

@@ -1,4 +1,4 @@
-// A key slot's area: filling it, and its candidate (LUKS 1.2.2, sections 4.2 and 4.3).
+// A key slot's area: filling it, and its candidate (LUKS 1.2.2, sections 4.2 and 4.3). Each returns how many values of HMAC it made.
 use hash::Hash;
 use xts::Keys;
 ghost use mathlib.Core.Path.{_≡_};
@@ -7,7 +7,7 @@ ghost use mathlib.Core.List.{List};
 ghost use Prim.Native.Nat.{ℕ, _+_, _-_, _*_, _%_, _≤_, _<_, _^_};
 ghost use lib.ListN.{length, take};
 ghost use Rattle.hash.specs.Hash.{digestOf};
-ghost use Rattle.pbkdf2.specs.Pbkdf2.{pbkdf2};
+ghost use Rattle.pbkdf2.specs.Pbkdf2.{pbkdf2, valuesMade};
 ghost use Rattle.suite.specs.Split.{running, mergeFrom, merge};
 ghost use Rattle.suite.specs.Units.{inUnits};
 ghost use Rattle.splitter.specs.Diffuse.{diffuse};
@@ -16,14 +16,21 @@ ghost use Rattle.xts.specs.Keys.{Ready, Under, unitDecrypt};
 ghost use Rattle.rules.specs.Facts.{slotInput, keyMaterial, candidateOf};
 ghost use Rattle.profiles.specs.Suites.{aesXts};
 
-// The key of l bytes that a passphrase gives, at the front of 64.
-fn slot_key(hash: Hash, passphrase: &[u8], salt: &[u8], count: u32, l: usize) -> [u8; 64]
+// The key that a passphrase gives, at the front of the bytes, and how many values of HMAC were made for it.
+struct Derived {
+    key: [u8; 64],
+    made: u64,
+}
+
+// The key of l bytes that a passphrase gives.
+fn slot_key(hash: Hash, passphrase: &[u8], salt: &[u8], count: u32, l: usize) -> Derived
     requires { ⌜ (l ≤ 64) × (1 ≤ count) × (length (now passphrase) < 2 ^ 61) × (length (now salt) < 2 ^ 60) ⌝ }
-    ensures { λ r. ⌜ take l r ≡ pbkdf2 (digestOf hash) (now (passphrase .entry)) (now (salt .entry)) count l ⌝ }
+    ensures { λ r. ⌜ (take l (r .key) ≡ pbkdf2 (digestOf hash) (now (passphrase .entry)) (now (salt .entry)) count l)
+        × (r .made ≡ valuesMade (digestOf hash .size) count l) ⌝ }
 {
-    let mut k = [0u8; 64];
-    pbkdf2::pbkdf2(&mut k[..l], hash, passphrase, salt, count);
-    k
+    let mut key = [0u8; 64];
+    let made = pbkdf2::pbkdf2(&mut key[..l], hash, passphrase, salt, count);
+    Derived { key, made }
 }
 
 // Fills an area of n stripes: the key is split into it and enciphered there.
@@ -36,17 +43,20 @@ pub fn fill(
     count: u32,
     random: &[u8],
     n: usize,
-)
+) -> u64
     requires { ⌜ (1 ≤ n) × (n * length (now key) ≡ length (now area)) × (length (now random) ≡ (n - 1) * length (now key))
         × (32 ≤ length (now key)) × (length (now key) ≤ 64)
         × (length (now key) % 32 ≡ 0) × (1 ≤ count) × (length (now passphrase) < 2 ^ 61) × (length (now salt) < 2 ^ 60) ⌝ }
-    ensures { λ _. ⌜ now (area .exit) ≡ keyMaterial (aesXts (digestOf hash)) (length (now (key .entry))) n (now (key .entry))
-        (slotInput (now (passphrase .entry)) (now (salt .entry)) count (now (random .entry))) ⌝ }
+    ensures { λ r. ⌜ (now (area .exit) ≡ keyMaterial (aesXts (digestOf hash)) (length (now (key .entry))) n (now (key .entry))
+        (slotInput (now (passphrase .entry)) (now (salt .entry)) count (now (random .entry))))
+        × (r ≡ aesXts (digestOf hash) .made count (length (now (key .entry)))) ⌝ }
 {
     let l = key.len();
     splitter::split_into(area, hash, key, random, n);
-    let k = slot_key(hash, passphrase, salt, count, l);
+    let d = slot_key(hash, passphrase, salt, count, l);
+    let k = d.key;
     xts::encrypt_all(area, 0, &k[..l]);
+    d.made
 }
 
 // The data units of a group, numbered from u, deciphered into b under the sliced key schedules ks of the blocks and vs of the tweaks.
@@ -177,13 +187,16 @@ pub fn candidate(
     passphrase: &[u8],
     salt: &[u8],
     count: u32,
-)
+) -> u64
     requires { ⌜ (1 ≤ n) × (n * length (now d) ≡ length (now area)) × (32 ≤ length (now d)) × (length (now d) ≤ 64) × (length (now d) % 32 ≡ 0) × (1 ≤ count)
         × (length (now passphrase) < 2 ^ 61) × (length (now salt) < 2 ^ 60) ⌝ }
-    ensures { λ _. ⌜ now (d .exit)
-        ≡ candidateOf (aesXts (digestOf hash)) (length (now (d .entry))) n (now (passphrase .entry)) (now (salt .entry)) count (now (area .entry)) ⌝ }
+    ensures { λ r. ⌜ (now (d .exit)
+        ≡ candidateOf (aesXts (digestOf hash)) (length (now (d .entry))) n (now (passphrase .entry)) (now (salt .entry)) count (now (area .entry)))
+        × (r ≡ aesXts (digestOf hash) .made count (length (now (d .entry)))) ⌝ }
 {
     let l = d.len();
-    let k = slot_key(hash, passphrase, salt, count, l);
+    let s = slot_key(hash, passphrase, salt, count, l);
+    let k = s.key;
     merge_units(d, hash, area, n, xts::expand(&k[..l]));
+    s.made
 }

@@ -10,5 +10,6 @@ pub mod EnterLaws
 pub mod StartLaws
 pub mod AnswerLaws
 pub mod LiveLaws
+pub mod CostLaws
 pub mod General
 pub mod Built

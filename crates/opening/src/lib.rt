@@ -10,12 +10,14 @@ ghost use Rattle.header.specs.Refusals.{number};
 ghost use Rattle.header.specs.Records.{factsIn, HeaderOk};
 ghost use Rattle.opening.specs.Opening.{IsFound, Zeroed};
 
-// What an opening returns. The key is followed by zeros; where the opening is refused, all is zero.
+// What an opening returns. The key is followed by zeros; where the opening is refused, slot, length and key are zero. Last, how many values
+// of HMAC it made.
 pub struct Opened {
     pub refusal: Refusal,
     pub slot: u8,
     pub key_length: u8,
     pub key: [u8; 64],
+    pub values: u64,
 }
 
 // The first slot that opens, counted from 1, or none.
@@ -24,21 +26,23 @@ pub enum Found {
     Nothing,
 }
 
-// What a search finds; the key counts where a slot was found.
+// What a search finds, and how many values of HMAC it made; the key counts where a slot was found.
 pub struct Search {
     pub found: Found,
     pub key: [u8; 64],
+    pub values: u64,
 }
 
-// A refused opening.
-fn refused(r: Refusal) -> Opened
-    ensures { λ o. ⌜ Zeroed r o ⌝ }
+// A refused opening, that made so many values.
+fn refused(r: Refusal, values: u64) -> Opened
+    ensures { λ o. ⌜ Zeroed r values o ⌝ }
 {
     Opened {
         refusal: r,
         slot: 0,
         key_length: 0,
         key: [0u8; 64],
+        values,
     }
 }
 
@@ -65,19 +69,19 @@ fn open_slot_check(image: &[u8], slot: u8, passphrase: &[u8]) -> Refusal
 // The contract rules out an opening that says 17 and tries nothing, and one that judges the slot by another's state.
 pub fn open_slot(image: &[u8], slot: u8, passphrase: &[u8]) -> Opened
     ensures { λ o. ⌜ DoesOpen built (now (image .entry)) (openSlot slot (now (passphrase .entry)))
-        (number (o .refusal)) (o .slot) (o .«key_length») (o .key) ⌝ }
+        (number (o .refusal)) (o .slot) (o .«key_length») (o .key) (o .values) ⌝ }
 {
     let h = header::check::header_check(image);
     if header::number_of(h) != 0 {
-        return refused(h);
+        return refused(h, 0);
     }
     let r = open_slot_check(image, slot, passphrase);
     if header::number_of(r) != 0 {
-        return refused(r);
+        return refused(r, 0);
     }
     let t = slots::try_slot(image, slot, passphrase);
     if !t.opens {
-        return refused(Refusal::WrongKey);
+        return refused(Refusal::WrongKey, t.values);
     }
     let key = t.key;
     Opened {
@@ -85,6 +89,7 @@ pub fn open_slot(image: &[u8], slot: u8, passphrase: &[u8]) -> Opened
         slot,
         key_length: header::facts::key_bytes(image) as u8,
         key,
+        values: t.values,
     }
 }
 
@@ -94,6 +99,7 @@ fn find_slot(image: &[u8], passphrase: &[u8]) -> Search
     ensures { λ r. ⌜ IsFound r (factsIn (now (image .entry))) (now (passphrase .entry)) ⌝ }
 {
     let mut key = [0u8; 64];
+    let mut values: u64 = 0;
     let mut slot: u8 = 1;
     let found = loop {
         if slot == 9 {
@@ -101,31 +107,33 @@ fn find_slot(image: &[u8], passphrase: &[u8]) -> Search
         }
         let t = slots::try_slot(image, slot, passphrase);
         key = t.key;
+        values += t.values;
         if t.opens {
             break Found::At(slot);
         }
         slot += 1;
     };
-    Search { found, key }
+    Search { found, key, values }
 }
 
 // Opens the first slot that the passphrase opens.
-// The contract rules out a search that leaves slot 8 out, and one that answers with a fixed key.
+// The contract rules out a search that leaves slot 8 out, one that answers with a fixed key, and one that does not count the slot that
+// opened.
 pub fn open(image: &[u8], passphrase: &[u8]) -> Opened
     ensures { λ o. ⌜ DoesOpen built (now (image .entry)) (openAny (now (passphrase .entry)))
-        (number (o .refusal)) (o .slot) (o .«key_length») (o .key) ⌝ }
+        (number (o .refusal)) (o .slot) (o .«key_length») (o .key) (o .values) ⌝ }
 {
     let h = header::check::header_check(image);
     if header::number_of(h) != 0 {
-        return refused(h);
+        return refused(h, 0);
     }
     if !header::arguments::passphrase_ok(passphrase) {
-        return refused(Refusal::BadPassphrase);
+        return refused(Refusal::BadPassphrase, 0);
     }
     let s = find_slot(image, passphrase);
     let found = s.found;
     let Found::At(slot) = found else {
-        return refused(Refusal::WrongKey);
+        return refused(Refusal::WrongKey, s.values);
     };
     let key = s.key;
     Opened {
@@ -133,5 +141,6 @@ pub fn open(image: &[u8], passphrase: &[u8]) -> Opened
         slot,
         key_length: header::facts::key_bytes(image) as u8,
         key,
+        values: s.values,
     }
 }

@@ -1,5 +1,6 @@
 // Read and write: units of the payload, in the clear in the caller's buffer and enciphered in the image.
 use header::ImageSector;
+use header::Outcome;
 use header::PayloadUnit;
 use header::Refusal;
 ghost use mathlib.Core.Path.{_≡_};
@@ -107,23 +108,36 @@ pub fn read(
     from: PayloadUnit,
     units: PayloadUnit,
     buffer: &mut [u8],
-) -> Refusal
+) -> Outcome
     ensures { λ r. ⌜ DoesRead built (now (image .entry)) (read (now (key .entry)) (from .0) (units .0) (now (buffer .entry)))
-        (number r) (now (buffer .entry)) (now (buffer .exit)) ⌝ }
+        (number (r .refusal)) (now (buffer .entry)) (now (buffer .exit)) (r .values) ⌝ }
 {
     let h = header::check::header_check(image);
     if header::number_of(h) != 0 {
-        return h;
+        return Outcome {
+            refusal: h,
+            values: 0,
+        };
     }
     let r = range_check(image, key, from, units, buffer);
     if header::number_of(r) != 0 { // refused: the buffer stays as it was
-        return r;
+        return Outcome {
+            refusal: r,
+            values: 0,
+        };
     }
-    if !slots::key_matches(image, key) { // 17: nothing is read
-        return Refusal::WrongKey;
+    let t = slots::key_matches(image, key);
+    if !t.matches { // 17: nothing is read
+        return Outcome {
+            refusal: Refusal::WrongKey,
+            values: t.values,
+        };
     }
     read_units(buffer, image, key, from, units);
-    r
+    Outcome {
+        refusal: r,
+        values: t.values, // of a read of 0 units too
+    }
 }
 
 // Writes the buffer to units of the payload, from unit `from` on.
@@ -134,21 +148,34 @@ pub fn write(
     from: PayloadUnit,
     units: PayloadUnit,
     buffer: &[u8],
-) -> Refusal
+) -> Outcome
     ensures { λ r. ⌜ Does built (now (image .entry)) (write (now (key .entry)) (from .0) (units .0) (now (buffer .entry)))
-        (number r) (now (image .exit)) ⌝ }
+        (number (r .refusal)) (now (image .exit)) (r .values) ⌝ }
 {
     let h = header::check::header_check(image);
     if header::number_of(h) != 0 {
-        return h;
+        return Outcome {
+            refusal: h,
+            values: 0,
+        };
     }
     let r = range_check(image, key, from, units, buffer);
     if header::number_of(r) != 0 { // refused: the image stays as it was
-        return r;
+        return Outcome {
+            refusal: r,
+            values: 0,
+        };
     }
-    if !slots::key_matches(image, key) { // 17: nothing is written
-        return Refusal::WrongKey;
+    let t = slots::key_matches(image, key);
+    if !t.matches { // 17: nothing is written
+        return Outcome {
+            refusal: Refusal::WrongKey,
+            values: t.values,
+        };
     }
     write_units(image, key, from, units, buffer);
-    r
+    Outcome {
+        refusal: r,
+        values: t.values, // of a write of 0 units too
+    }
 }

@@ -35,6 +35,18 @@ more-values {k = k} p ev ex =
     let n : (k + 1) - 1 ≡ suc (k - 1) = omega arith in
     record { some = omega arith; last = rw (n, ev, p .last); sum = rw (n, ex, p .sum, ev, p .last) }
 
+-- ---- how many values are made
+
+-- c for each of j blocks, and then for m more
+pub more-made : (c j m x y : ℕ) → x ≡ c * j → y ≡ m * c → x + y ≡ c * (j + m)
+more-made c j m x y ex ey = ap₂ _+_ ex (ey ∙ mul-comm m c) ∙ sym (mul-add c j m)
+
+-- they fit in 64 bits
+pub few-made : (c j n : ℕ) → c < 2 ^ 32 → j ≤ n → n < 2 ^ 32 → c * j < 2 ^ 64
+few-made c j n hc hj hn =
+    let a : c * j ≤ (2 ^ 32 - 1) * j = mul-le-mul-right j (let e : c ≤ 2 ^ 32 - 1 = omega arith in e) in
+    omega arith
+
 -- ---- lengths and bytes
 
 str-folded : (D : ℕ) (f : List ℕ → List ℕ) (u : List ℕ) (n : ℕ) → ((x : List ℕ) → Str D (f x)) → Str D u → Str D (folded f u n)

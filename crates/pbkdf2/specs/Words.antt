@@ -6,7 +6,7 @@ use lib.ListN.{length, take}
 use Rattle.octets.specs.Octets.{zeros, be32}
 use Rattle.digest.specs.Chaining.{Compression, digest, finish, chained}
 use Rattle.sha1.specs.Sha1 as sha1
-use Rattle.lanes.specs.Lanes.{fourDigests}
+use Rattle.lanes.specs.Lanes.{lane, fourDigests}
 use Rattle.pbkdf2.specs.Pbkdf2.{folded}
 
 -- the padding of a message of one whole block and n words, as the words that fill its last block
@@ -38,6 +38,10 @@ module _ (C : Compression) where
   -- x holds T_1 || .. || T_n, cropped where it ends
   abbrev pub Holds : List ℕ → List ℕ → List ℕ → ℕ → ℕ → List ℕ → Type 0
   Holds i o s c n x = take (chained C .size * n) x ≡ take (length x) (firstBlocks i o s c n)
+
+-- in each lane of u the exclusive or of n + 1 values, of which u has the first, and these sums as bytes
+abbrev pub fourSums : (List ℕ → List ℕ) → ℕ → List (List ℕ) → List ℕ
+fourSums f n u = fourDigests (folded f (lane 0 u) n) (folded f (lane 1 u) n) (folded f (lane 2 u) n) (folded f (lane 3 u) n)
 
 -- T_n of SHA-1
 abbrev pub sha1Words : List ℕ → List ℕ → List ℕ → ℕ → ℕ → List ℕ

@@ -3,7 +3,7 @@
 use Prim.Native.Nat.{ℕ}
 use Rattle.digest.specs.Digest.{Digest}
 use Rattle.hash.specs.Hash.{digestOf}
-use Rattle.pbkdf2.specs.Pbkdf2.{pbkdf2}
+use Rattle.pbkdf2.specs.Pbkdf2.{pbkdf2, valuesMade}
 use Rattle.xts.specs.Xts.{xtsEncrypt, xtsDecrypt}
 use Rattle.splitter.specs.Diffuse.{diffuse}
 use Rattle.suite.specs.Suite.{Suite}
@@ -12,7 +12,7 @@ use Rattle.profiles.specs.Rows.{hashOf, rows}
 
 -- aes, xts-plain64 and a digest: PBKDF2 with HMAC over the digest, AES-XTS, and the splitter's H over the digest
 unfoldable pub aesXts : Digest → Suite
-aesXts H = record { derive = pbkdf2 H; encipher = xtsEncrypt; decipher = xtsDecrypt; diffuse = diffuse H }
+aesXts H = record { derive = pbkdf2 H; made = valuesMade (H .size); encipher = xtsEncrypt; decipher = xtsDecrypt; diffuse = diffuse H }
 
 -- the suite of the profile with number k
 unfoldable pub suiteOf : ℕ → Suite

@@ -1,4 +1,5 @@
 // Revoke: a slot's area is filled with the caller's filler and its record disabled.
+use header::Outcome;
 use header::Refusal;
 ghost use mathlib.Core.Path.{_≡_};
 ghost use Prim.Native.Nat.{_-_, _≤_, _<_};
@@ -63,20 +64,29 @@ fn revoke_check(image: &[u8], slot: u8, filler: &[u8], list: &[u8]) -> Refusal
 
 // Revokes a slot: its area is filled, its record disabled, its start and stripes stay. The list has the sector writes of it.
 // The contract rules out a revoke that clears the record's start, one that revokes the last slot, and one that leaves the list as it was lent.
-pub fn revoke(image: &mut [u8], slot: u8, filler: &[u8], list: &mut [u8]) -> Refusal
+pub fn revoke(image: &mut [u8], slot: u8, filler: &[u8], list: &mut [u8]) -> Outcome
     ensures { λ r. ⌜ DoesListed built (now (image .entry)) (revoke slot (now (filler .entry)) (now (list .entry)))
-        (number r) (now (image .exit)) (now (list .entry)) (now (list .exit)) ⌝ }
+        (number (r .refusal)) (now (image .exit)) (now (list .entry)) (now (list .exit)) (r .values) ⌝ }
 {
     let h = header::check::header_check(image);
     if header::number_of(h) != 0 {
-        return h;
+        return Outcome {
+            refusal: h,
+            values: 0,
+        };
     }
     let r = revoke_check(image, slot, filler, list);
     if header::number_of(r) != 0 {
-        return r;
+        return Outcome {
+            refusal: r,
+            values: 0,
+        };
     }
     let area = sectors::area_of(image, slot);
     slots::disable_slot(image, slot, filler);
     sectors::put_list(list, 0, image, area);
-    r
+    Outcome {
+        refusal: r,
+        values: 0, // a revoke derives nothing
+    }
 }

@@ -1,40 +1,53 @@
-// The slots' work below the calls: a key's checksum tested, a slot tried with a passphrase, a slot enabled and disabled.
+// The slots' work below the calls: a key's checksum tested, a slot tried with a passphrase, a slot enabled and disabled. What derives says
+// how many values of HMAC it made; the bounds let a caller add these numbers up in 64 bits.
 ghost use mathlib.Core.Path.{_≡_};
 ghost use mathlib.Core.Bool.{true};
-ghost use Prim.Native.Nat.{_+_, _-_, _*_, _≤_};
+ghost use Prim.Native.Nat.{_+_, _-_, _*_, _^_, _≤_, _<_};
 ghost use lib.ListN.{length};
 ghost use Rattle.octets.specs.Splice.{splice};
-ghost use Rattle.rules.specs.Facts.{slotOf, isEnabled, matches, candidate, slotInput};
+ghost use Rattle.rules.specs.Facts.{slotOf, isEnabled, candidate, slotInput};
 ghost use Rattle.rules.specs.Calls.{slotNumberOk, passphraseOk, keyOk, countOk, randomOk};
 ghost use Rattle.rules.specs.Step.{written, recordHead, enableWrites, disableWrites};
+ghost use Rattle.rules.specs.Costs.{derivationCost};
 ghost use Rattle.header.specs.Records.{factsIn, HeaderOk};
-ghost use Rattle.slots.specs.Trials.{IsTrial};
+ghost use Rattle.slots.specs.Trials.{IsTest, IsTrial};
 
-// Whether a slot opens, and then its key, followed by zeros.
+// Whether a key has the header's checksum, and how many values of HMAC the test made.
+pub struct Test {
+    pub matches: bool,
+    pub values: u64,
+}
+
+// Whether a slot opens, and then its key, followed by zeros; how many values of HMAC the trial made.
 pub struct Trial {
     pub opens: bool,
     pub key: [u8; 64],
+    pub values: u64,
 }
 
 // Has the key the header's checksum? One derivation of 20 bytes.
-pub fn key_matches(image: &[u8], key: &[u8]) -> bool
+pub fn key_matches(image: &[u8], key: &[u8]) -> Test
     requires { ⌜ HeaderOk (now image) × (length (now key) ≤ 64) ⌝ }
-    ensures { λ r. ⌜ r ≡ matches (factsIn (now (image .entry))) (now (key .entry)) ⌝ }
+    ensures { λ r. ⌜ IsTest r (factsIn (now (image .entry))) (now (key .entry)) ⌝ }
 {
     let hash = header::facts::hash_in(image);
     let count = header::facts::checksum_count(image);
     let salt = header::facts::checksum_salt(image);
     let mut sum = [0u8; 20];
-    pbkdf2::pbkdf2(&mut sum, hash, key, &salt, count);
+    let values = pbkdf2::pbkdf2(&mut sum, hash, key, &salt, count);
     let expected = header::facts::checksum(image);
-    octets::equal(&sum, &expected)
+    Test {
+        matches: octets::equal(&sum, &expected),
+        values,
+    }
 }
 
-// The candidate of an enabled slot, in d.
-fn slot_candidate(d: &mut [u8], image: &[u8], slot: u8, passphrase: &[u8])
+// The candidate of an enabled slot, in d. How many values of HMAC were made.
+fn slot_candidate(d: &mut [u8], image: &[u8], slot: u8, passphrase: &[u8]) -> u64
     requires { ⌜ HeaderOk (now image) × (slotNumberOk slot ≡ true) × (isEnabled (slotOf (factsIn (now image)) slot) ≡ true)
         × (length (now d) ≡ factsIn (now image) .profile .keyBytes) × (passphraseOk (now passphrase) ≡ true) ⌝ }
-    ensures { λ _. ⌜ now (d .exit) ≡ candidate (factsIn (now (image .entry))) slot (now (passphrase .entry)) ⌝ }
+    ensures { λ r. ⌜ (now (d .exit) ≡ candidate (factsIn (now (image .entry))) slot (now (passphrase .entry)))
+        × (r ≡ derivationCost (factsIn (now (image .entry))) (slotOf (factsIn (now (image .entry))) slot .count)) × (r < 2 ^ 34) ⌝ }
 {
     let hash = header::facts::hash_in(image);
     let s = header::facts::slot_of(image, slot);
@@ -42,7 +55,7 @@ fn slot_candidate(d: &mut [u8], image: &[u8], slot: u8, passphrase: &[u8])
     let at = s.start.0 as usize * 512;
     let end = at + n * d.len();
     let salt = s.salt;
-    keyslot::candidate(d, hash, &image[at..end], n, passphrase, &salt, s.count);
+    keyslot::candidate(d, hash, &image[at..end], n, passphrase, &salt, s.count)
 }
 
 // Tries a slot, counted from 1: a disabled one costs nothing, an enabled one its derivation and one checksum.
@@ -54,13 +67,18 @@ pub fn try_slot(image: &[u8], slot: u8, passphrase: &[u8]) -> Trial
         return Trial {
             opens: false,
             key: [0u8; 64],
+            values: 0,
         };
     }
     let l = header::facts::key_bytes(image) as usize;
     let mut key = [0u8; 64];
-    slot_candidate(&mut key[..l], image, slot, passphrase);
-    let opens = key_matches(image, &key[..l]);
-    Trial { opens, key }
+    let derived = slot_candidate(&mut key[..l], image, slot, passphrase);
+    let t = key_matches(image, &key[..l]);
+    Trial {
+        opens: t.matches,
+        key,
+        values: derived + t.values,
+    }
 }
 
 // The first 40 bytes of a slot's record; its start and stripes stay.
@@ -87,7 +105,8 @@ fn put_head(image: &mut [u8], slot: u8, state: u32, count: u32, salt: &[u8; 32])
     octets::copy_into(image, place, &head);
 }
 
-// Fills the slot's area with the split and enciphered key, and enables its record. The salt's length is said as in put_head.
+// Fills the slot's area with the split and enciphered key, and enables its record. How many values of HMAC were made. The salt's length is
+// said as in put_head.
 pub fn enable_slot(
     image: &mut [u8],
     slot: u8,
@@ -96,18 +115,19 @@ pub fn enable_slot(
     salt: &[u8; 32],
     count: u32,
     random: &[u8],
-)
+) -> u64
     requires { ⌜ HeaderOk (now image) × (slotNumberOk slot ≡ true) × (keyOk (factsIn (now image)) (now key) ≡ true) × (passphraseOk (now passphrase) ≡ true)
         × (countOk (factsIn (now image)) count ≡ true) × (randomOk (factsIn (now image)) slot (now random) ≡ true) ⌝ }
-    ensures { λ _. ⌜ (now (image .exit) ≡ written (enableWrites (factsIn (now (image .entry))) slot (now (key .entry))
-        (slotInput (now (passphrase .entry)) (now (salt .entry)) count (now (random .entry)))) (now (image .entry))) × (length (now (salt .entry)) ≡ 32) ⌝ }
+    ensures { λ r. ⌜ (now (image .exit) ≡ written (enableWrites (factsIn (now (image .entry))) slot (now (key .entry))
+        (slotInput (now (passphrase .entry)) (now (salt .entry)) count (now (random .entry)))) (now (image .entry))) × (length (now (salt .entry)) ≡ 32)
+        × (r ≡ derivationCost (factsIn (now (image .entry))) count) × (r < 2 ^ 34) ⌝ }
 {
     let hash = header::facts::hash_in(image);
     let s = header::facts::slot_of(image, slot);
     let at = s.start.0 as usize * 512;
     let n = s.stripes as usize;
     let end = at + n * key.len();
-    keyslot::fill(
+    let made = keyslot::fill(
         &mut image[at..end],
         hash,
         key,
@@ -118,6 +138,7 @@ pub fn enable_slot(
         n,
     );
     put_head(image, slot, header::ENABLED, count, salt);
+    made
 }
 
 // Fills the slot's area, as far as the filler goes, and disables its record.

@@ -7,6 +7,7 @@ use Rattle.octets.specs.Octets.{Str}
 -- 01, "Ciphers and hashes" and "The splitter"
 pub record Suite : Type 0 where
   pub derive : List ℕ → List ℕ → ℕ → ℕ → List ℕ  -- PBKDF2: password, salt, count, length
+  pub made : ℕ → ℕ → ℕ  -- how many values of HMAC that makes (02, Wish 6): count, length
   pub encipher : List ℕ → ℕ → List ℕ → List ℕ  -- key, unit number, data unit
   pub decipher : List ℕ → ℕ → List ℕ → List ℕ
   pub diffuse : List ℕ → List ℕ  -- H of the splitter

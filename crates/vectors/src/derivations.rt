@@ -1,4 +1,4 @@
-// PBKDF2: the test vectors of RFC 6070 with HMAC-SHA-1, and of RFC 7914, section 11, with HMAC-SHA-256.
+// PBKDF2: the test vectors of RFC 6070 with HMAC-SHA-1, and of RFC 7914, section 11, with HMAC-SHA-256, each with how many values of HMAC it makes.
 use hash::Hash;
 ghost use Prim.Native.Nat.{_≤_, _<_, _^_};
 ghost use lib.ListN.{length};
@@ -10,12 +10,14 @@ fn derives(
     password: &[u8],
     salt: &[u8],
     count: u32,
+    values: u64,
     digits: &[u8],
 )
     requires { ⌜ (length (now password) < 2 ^ 61) × (length (now salt) < 2 ^ 60) × (1 ≤ count) × (length (now key) ≤ 64) ⌝ }
 {
-    pbkdf2::pbkdf2(key, hash, password, salt, count);
-    testing::line(name, crate::hex::same(key, digits));
+    let made = pbkdf2::pbkdf2(key, hash, password, salt, count);
+    let same = crate::hex::same(key, digits);
+    testing::line(name, same && made == values);
 }
 
 // 20 bytes with SHA-1 of the passphrase "password" and the salt "salt".
@@ -30,6 +32,7 @@ fn key_of_20(name: &[u8], count: u32, digits: &[u8])
         b"password",
         b"salt",
         count,
+        count as u64,
         digits,
     );
 }
@@ -67,6 +70,7 @@ pub fn rfc6070_5_and_6() {
         b"passwordPASSWORDpassword",
         b"saltSALTsaltSALTsaltSALTsaltSALTsalt",
         4096,
+        8192,
         b"3d2eec4fe41c849b80c8d83662c0e44a8b291a964cf2f07038",
     );
     derives(
@@ -75,6 +79,7 @@ pub fn rfc6070_5_and_6() {
         b"PBKDF2, RFC 6070, zero bytes inside",
         b"pass\0word",
         b"sa\0lt",
+        4096,
         4096,
         b"56fa6aa75548099dcc37d7f03425e0c3",
     );
@@ -89,6 +94,7 @@ pub fn rfc7914() {
         b"passwd",
         b"salt",
         1,
+        2,
         b"55ac046e56e3089fec1691c22544b605f94185216dde0465e68b9d57c20dacbc\
           49ca9cccf179b645991664b39d77ef317c71b845b1e30bd509112041d3a19783",
     );
@@ -99,6 +105,7 @@ pub fn rfc7914() {
         b"Password",
         b"NaCl",
         80000,
+        160000,
         b"4ddcd8f60b98be21830cee5ef22701f9641a4418d04c0414aeff08876b34ab56\
           a1d425a1225833549adb841b51c9b3176a272bdebba1d078478f62b397f33c8d",
     );

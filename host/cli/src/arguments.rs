@@ -24,7 +24,7 @@ const KEY_FILE: &[&str] = &["--key-file", "--key-file-offset", "--key-file-size"
 const NEW_KEY_FILE: &[&str] = &["--new-key-file", "--new-key-file-offset", "--new-key-file-size"];
 const ITERATIONS: &[&str] = &["--iterations", "--iter-time"];
 
-const COMMANDS: [Command; 9] = [
+const COMMANDS: [Command; 10] = [
     Command {
         name: "format",
         values: &[&["--hash", "--key-size", "--checksum-iterations", "--stripes", "--uuid"], ITERATIONS, KEY_FILE],
@@ -49,7 +49,14 @@ const COMMANDS: [Command; 9] = [
     Command { name: "revoke", values: &[&["--slot"]], flags: &["--force"], help: help::REVOKE, run: commands::revoke },
     Command { name: "slots", values: &[], flags: &["--details", "--json"], help: help::SLOTS, run: commands::slots },
     Command { name: "uuid", values: &[], flags: &[], help: help::UUID, run: commands::uuid },
-    Command { name: "test", values: &[&["--slot"], KEY_FILE], flags: &[], help: help::TEST, run: commands::test },
+    Command {
+        name: "test",
+        values: &[&["--slot"], KEY_FILE],
+        flags: &["--verbose"],
+        help: help::TEST,
+        run: commands::test,
+    },
+    Command { name: "estimate", values: &[], flags: &["--json"], help: help::ESTIMATE, run: commands::estimate },
     Command {
         name: "read",
         values: &[&["--first", "--units", "--out", "--slot"], KEY_FILE],

@@ -1,17 +1,19 @@
-//! The nine commands. Each looks at the drive first, then asks for passphrases, then acts in memory, and writes last.
+//! The ten commands. Each looks at the drive first, then asks for passphrases, then acts in memory, and writes last.
+use crate::amounts::{duration, grouped, hmac_values};
 use crate::arguments::Given;
+use crate::bar;
 use crate::failure::{self, shown, Failure};
 use crate::image::{ImageFile, Purpose};
 use crate::passphrase::{self, Source};
 use crate::random;
-use crate::rate;
+use crate::rate::{self, Rates, Work};
 use crate::screens;
 use crate::signatures;
 use crate::small;
 use crate::transfer;
 use mivrozh::header::{Header, MOST_STRIPES, SECTOR, SLOTS};
-use mivrozh::{FormatInput, Hash, Opened, Profile, Refusal, Secret, SectorWrites, SlotInput, Slots};
-use std::time::Duration;
+use mivrozh::{Counted, FormatInput, Hash, Opened, Profile, Refusal, Secret, SectorWrites, SlotInput, Slots};
+use std::time::{Duration, Instant};
 
 // Where the user says nothing of a derivation's length.
 const ITERATIONS: u32 = 500_000;
@@ -33,7 +35,9 @@ pub fn format(given: &Given) -> Result<(), Failure> {
     let salt = random::salt()?;
     let checksum_count = asked_for.unwrap_or(rate::checksum_count(count));
     let input = FormatInput::new(profile, &key, &salt, checksum_count, &uuid).stripes(stripes);
-    image.drive().format(&input).map_err(|refusal| of_format(refusal, &input, &image))?;
+    let work = Work { derivations: 0, checksums: checksum_count.into() };
+    let made = bar::during("computing the key's checksum", profile, work, || image.drive().format(&input));
+    made.result.map_err(|refusal| of_format(refusal, &input, &image))?;
     confirm_loss(given, &image)?;
     let passphrase = passphrase::new(&source, "Passphrase for the new drive: ")?;
     let mut list = vec![0; header_of(&image)?.list_length(FIRST_SLOT)];
@@ -114,7 +118,7 @@ pub fn add(given: &Given) -> Result<(), Failure> {
     given.check_standard_input()?;
     let (old_source, new_source) = (Source::of(given, "--key-file")?, Source::of(given, "--new-key-file")?);
     let (mut image, slots) = checked(given, Purpose::Writing)?;
-    let count = iterations(given, small::profile_of(image.bytes()).map_err(Failure::refused)?)?;
+    let count = iterations(given, header_of(&image)?.profile)?;
     let slot = free_slot(given.slot("--slot")?, &slots, |slot| Some(cut_addition(slot)))?;
     let opened = open(&mut image, None, &old_source, "Passphrase that the drive has: ")?;
     let passphrase = passphrase::new(&new_source, &format!("New passphrase, for key slot {slot}: "))?;
@@ -129,7 +133,7 @@ pub fn change(given: &Given) -> Result<(), Failure> {
     let (old_source, new_source) = (Source::of(given, "--key-file")?, Source::of(given, "--new-key-file")?);
     let (mut image, slots) = checked(given, Purpose::Writing)?;
     let header = header_of(&image)?;
-    let count = iterations(given, small::profile_of(image.bytes()).map_err(Failure::refused)?)?;
+    let count = iterations(given, header.profile)?;
     let from = given.slot("--slot")?;
     let asked = given.slot("--to")?;
     let to = free_slot(asked, &slots, |to| cut_change(from, to, &slots))?;
@@ -148,8 +152,11 @@ pub fn change(given: &Given) -> Result<(), Failure> {
     let filler = random::bytes(header.area_length(from))?;
     let input = SlotInput::new(&new, &salt, count, random.expose());
     let mut list = vec![0; header.change_list_length(from, to)];
-    let changed = image.drive().change(from, &old, to, &input, filler.expose(), &mut list);
-    let writes = changed.map_err(|refusal| Failure::refused_slot(refusal, to))?;
+    let work = Work::trial(&header, from).and(Work::derivation(&header, count));
+    let changed = bar::during("changing the passphrase", header.profile, work, || {
+        image.drive().change(from, &old, to, &input, filler.expose(), &mut list)
+    });
+    let writes = changed.result.map_err(|refusal| Failure::refused_slot(refusal, to))?;
     image.carry_out(writes, |flushed| match flushed {
         0..STAGES => format!("{AGAIN}, with --slot {from} --to {to}"),
         _ => finished_by_revoking(from, to),
@@ -164,7 +171,7 @@ pub fn revoke(given: &Given) -> Result<(), Failure> {
     let header = header_of(&image)?;
     let (filler, mut list) = (random::bytes(header.area_length(slot))?, vec![0; header.list_length(slot)]);
     let revoked = image.drive().revoke(slot, filler.expose(), &mut list);
-    let writes = revoked.map_err(|refusal| of_revoked_slot(refusal, slot, &slots))?;
+    let writes = revoked.result.map_err(|refusal| of_revoked_slot(refusal, slot, &slots))?;
     let stay = match slots.enabled().count() - 1 {
         1 => "1 other key slot stays in use".into(),
         others => format!("{others} other key slots stay in use"),
@@ -202,8 +209,29 @@ pub fn uuid(given: &Given) -> Result<(), Failure> {
 pub fn test(given: &Given) -> Result<(), Failure> {
     let source = Source::of(given, "--key-file")?;
     let (mut image, _) = checked(given, Purpose::Reading)?;
-    let opened = open(&mut image, given.slot("--slot")?, &source, "Passphrase: ")?;
-    transfer::print(&format!("key slot {} opens\n", opened.slot))
+    let (slot, mut cost) = (given.slot("--slot")?, Cost::default());
+    let opened =
+        passphrase::tried(&source, "Passphrase: ", |passphrase| opened_with(&mut image, slot, passphrase, &mut cost));
+    // Of a passphrase that opens nothing too; not where nothing was derived.
+    let cost = if given.has("--verbose") && cost.values > 0 { cost.shown() } else { String::new() };
+    match opened {
+        Ok((opened, _)) => transfer::print(&format!("key slot {} opens\n{cost}", opened.slot)),
+        Err(refused) => {
+            // That this cannot be printed does not hide the refusal.
+            let _ = transfer::print(&cost);
+            Err(refused)
+        }
+    }
+}
+
+pub fn estimate(given: &Given) -> Result<(), Failure> {
+    let (image, _) = checked(given, Purpose::Looking)?;
+    let header = header_of(&image)?;
+    let rates = Rates::exact(header.profile).map_err(Failure::refused)?;
+    transfer::print(&match given.has("--json") {
+        false => screens::estimate_table(&header, &rates),
+        true => screens::estimate_json(&header, &rates),
+    })
 }
 
 pub fn read(given: &Given) -> Result<(), Failure> {
@@ -339,23 +367,57 @@ fn cut_change(from: Option<u8>, to: Option<u8>, slots: &Slots) -> Option<String>
 }
 
 fn open(image: &mut ImageFile, slot: Option<u8>, source: &Source, prompt: &str) -> Result<Opened, Failure> {
-    let (opened, _) = passphrase::tried(source, prompt, |passphrase| opened_with(image, slot, passphrase))?;
+    let (opened, _) =
+        passphrase::tried(source, prompt, |passphrase| opened_with(image, slot, passphrase, &mut Cost::default()))?;
     Ok(opened)
 }
 
-// Opens one slot, or the first that the passphrase opens.
-fn opened_with(image: &mut ImageFile, slot: Option<u8>, passphrase: &Secret) -> Result<Opened, Failure> {
-    let drive = image.drive();
-    let Some(slot) = slot else {
-        return drive.open(passphrase).map_err(|refusal| match refusal {
-            Refusal::WrongKey => {
-                Failure::refused_because(refusal, "no key slot opens with this passphrase; try another")
-            }
-            other => Failure::refused(other),
+// What an opening made, and how long it took.
+#[derive(Default)]
+struct Cost {
+    values: u64,
+    took: Duration,
+}
+
+impl Cost {
+    // Of a call, which is made here.
+    fn of<T>(call: impl FnOnce() -> Counted<T>) -> (Cost, Counted<T>) {
+        let start = Instant::now();
+        let counted = call();
+        (Cost { values: counted.values, took: start.elapsed() }, counted)
+    }
+
+    fn shown(&self) -> String {
+        let rate = rate::per_second(self.values, self.took) as u64;
+        format!("{} in {}, {} a second\n", hmac_values(self.values), duration(self.took), grouped(rate))
+    }
+}
+
+// Opens one slot, or the first that the passphrase opens, and says what that has cost, also where it is refused.
+fn opened_with(
+    image: &mut ImageFile,
+    slot: Option<u8>,
+    passphrase: &Secret,
+    cost: &mut Cost,
+) -> Result<Opened, Failure> {
+    let (header, drive) = (header_of(image)?, image.drive());
+    let work = slot.map_or(Work::search(&header), |slot| Work::trial(&header, slot));
+    let opened = bar::during("opening", header.profile, work, || {
+        let (own, opened) = Cost::of(|| match slot {
+            Some(slot) => drive.open_slot(slot, passphrase),
+            None => drive.open(passphrase),
         });
-    };
+        *cost = own;
+        opened
+    });
     let slots = drive.slots().map_err(Failure::refused)?;
-    drive.open_slot(slot, passphrase).map_err(|refusal| of_used_slot(refusal, slot, &slots))
+    opened.result.map_err(|refusal| match (slot, refusal) {
+        (Some(slot), refusal) => of_used_slot(refusal, slot, &slots),
+        (None, Refusal::WrongKey) => {
+            Failure::refused_because(refusal, "no key slot opens with this passphrase; try another")
+        }
+        (None, other) => Failure::refused(other),
+    })
 }
 
 // Opens the slot whose passphrase is to be changed. Where a change of it was cut short, it may open no more; another slot is
@@ -367,7 +429,7 @@ fn opened_to_change(
     passphrase: &Secret,
 ) -> Result<Opened, Failure> {
     let several = image.drive().slots().is_ok_and(|slots| slots.enabled().count() > 1);
-    opened_with(image, slot, passphrase).map_err(|failure| match several && to.is_none() {
+    opened_with(image, slot, passphrase, &mut Cost::default()).map_err(|failure| match several && to.is_none() {
         true if failure.status == Refusal::WrongKey.number() => failure.with_advice(
             "If a change was cut short and 'mivrozh test' opens with the new passphrase, revoke the old slot",
         ),
@@ -421,7 +483,11 @@ fn add_key<'l>(
     count: u32,
     list: &'l mut [u8],
 ) -> Result<SectorWrites<'l>, Failure> {
-    let (salt, random) = (random::salt()?, random::bytes(header_of(image)?.random_length(slot))?);
+    let header = header_of(image)?;
+    let (salt, random) = (random::salt()?, random::bytes(header.random_length(slot))?);
     let input = SlotInput::new(passphrase, &salt, count, random.expose());
-    image.drive().add(slot, key, &input, list).map_err(|refusal| Failure::refused_slot(refusal, slot))
+    let work = Work::checksum(&header).and(Work::derivation(&header, count));
+    let added =
+        bar::during("adding the passphrase", header.profile, work, || image.drive().add(slot, key, &input, list));
+    added.result.map_err(|refusal| Failure::refused_slot(refusal, slot))
 }

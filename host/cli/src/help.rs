@@ -6,15 +6,16 @@ mivrozh: LUKS version 1 drives in files and block devices
 Usage: mivrozh COMMAND [OPTIONS] IMAGE
 
 Commands:
-  format   make a new drive with a random master key and a first passphrase
-  add      add a passphrase
-  change   change a passphrase
-  revoke   remove a passphrase
-  slots    show which key slots are enabled
-  uuid     print the drive's UUID
-  test     say which key slot a passphrase opens
-  read     decipher units of the payload into a file
-  write    encipher a file into units of the payload
+  format    make a new drive with a random master key and a first passphrase
+  add       add a passphrase
+  change    change a passphrase
+  revoke    remove a passphrase
+  slots     show which key slots are enabled
+  uuid      print the drive's UUID
+  test      say which key slot a passphrase opens
+  estimate  say how long openings take on this machine
+  read      decipher units of the payload into a file
+  write     encipher a file into units of the payload
 
 For installers:
   manual                print the manual page, mivrozh(1)
@@ -27,6 +28,10 @@ of it, a newline too, or the bytes that --key-file-offset and --key-file-size na
 the terminal, up to three times where it is mistyped; it is never an argument. A drive has eight key slots, 1 to 8, with one
 passphrase each. cryptsetup and qemu count the same slots from 0: our slot 1 is their slot 0. A unit of the payload is 512
 bytes.
+
+What takes time is the derivation of keys from passphrases, that is, the making of HMAC values; how many are needed stands in
+the drive's header. Where it takes half a second or more and standard error is a terminal, a bar shows there how far it is, and
+ends with the number that was made.
 
 A drive is changed sector by sector, in an order in which a cut harms no other passphrase, and of a change leaves the old one
 or the new one. While the tool uses it, it is locked against other runs of this tool and against qemu; a block device that
@@ -209,12 +214,35 @@ Tries the enabled key slots from 1 to 8, prints the first that opens, and change
 
 Options:
   --slot N               try this key slot only, 1 to 8; cryptsetup counts from 0: our 1 is its 0
+  --verbose              also print how many HMAC values were made, in what time, and how many that is in a second; also where
+                         nothing opens
   --key-file FILE        the passphrase; without it you are asked
   --key-file-offset N    where in the key file the passphrase begins, in bytes (default 0)
   --key-file-size N      how many bytes of the key file it has (default: all up to the end)
 
 Example:
   mivrozh test --key-file first.key drive.img
+";
+
+pub const ESTIMATE: &str = "\
+mivrozh estimate: say how long openings take on this machine
+
+Usage: mivrozh estimate [OPTIONS] IMAGE
+
+Shows of each enabled key slot how many HMAC values a trial of a passphrase makes and how long that takes here, and the same of
+a failed search, which tries all of them. A search that opens a slot ends there. The numbers are exact, from the drive's header;
+this machine is measured, in a fraction of a second, so that times are about right while it does nothing else. No passphrase is
+asked for, and nothing is changed.
+
+With --json one object is printed. Its list \"slots\" has an object for each enabled key slot, with the numbers \"slot\" (from
+1), \"values\" and \"seconds\"; \"search\" has the last two for a failed search, and \"rates\" the HMAC values a second for
+\"keys\" and for \"checksums\".
+
+Options:
+  --json    print JSON in place of the table, for programs
+
+Example:
+  mivrozh estimate drive.img
 ";
 
 pub const READ: &str = "\

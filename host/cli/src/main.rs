@@ -1,7 +1,9 @@
 //! The command-line tool `mivrozh`: makes, opens and changes LUKS version 1 drives in image files.
 #![deny(unsafe_code)]
 
+mod amounts;
 mod arguments;
+mod bar;
 mod commands;
 mod completions;
 mod failure;

@@ -1,6 +1,9 @@
-//! What is shown of the key slots, on two screens: as a table for people, and as JSON for programs.
+//! What is shown of the key slots, on two screens, and how long their trials take: as a table for people, and as JSON for
+//! programs.
+use crate::amounts::{duration, grouped};
+use crate::rate::{Rates, Work};
 use mivrozh::header::SLOTS;
-use mivrozh::{SlotDetails, Slots};
+use mivrozh::{Header, SlotDetails, Slots};
 use std::fmt::Write;
 
 /// Which slots are enabled, and nothing else.
@@ -37,6 +40,37 @@ pub fn details_json(details: &SlotDetails) -> String {
         let (count, start, stripes) = (slot.count, slot.start, slot.stripes);
         format!(r#"{},"count":{count},"start":{start},"stripes":{stripes}"#, entry(number, slot.enabled))
     }))
+}
+
+// The enabled slots of a header with what a trial of each makes.
+fn trials(header: &Header) -> impl Iterator<Item = (u8, Work)> + '_ {
+    let enabled = header.slots().iter().filter(|(_, slot)| slot.enabled);
+    enabled.map(|(slot, _)| (slot, Work::trial(header, slot)))
+}
+
+/// How many HMAC values a trial of each enabled slot makes and a search that opens nothing, and how long they take here.
+pub fn estimate_table(header: &Header, rates: &Rates) -> String {
+    let mut table = String::from("slot  cryptsetup's      HMAC values  time here\n");
+    let mut line = |who: String, work: Work| {
+        let _ = writeln!(table, "{who:18}  {:>15}  {}", grouped(work.values()), duration(rates.time(work)));
+    };
+    for (slot, work) in trials(header) {
+        line(format!("{slot:4}  {:12}", slot - 1), work);
+    }
+    line("failed search".into(), Work::search(header));
+    let [keys, checksums] = [rates.derivation, rates.checksum].map(|rate| grouped(rate as u64));
+    let _ = writeln!(table, "measured here: {keys} HMAC values a second for keys, {checksums} for checksums");
+    table
+}
+
+/// The same, with times in seconds.
+pub fn estimate_json(header: &Header, rates: &Rates) -> String {
+    let figures = |work: Work| format!(r#""values":{},"seconds":{:.3}"#, work.values(), rates.time(work).as_secs_f64());
+    let slots: Vec<String> =
+        trials(header).map(|(slot, work)| format!("\n  {{\"slot\":{slot},{}}}", figures(work))).collect();
+    let search = figures(Work::search(header));
+    let rate = format!(r#""keys":{:.0},"checksums":{:.0}"#, rates.derivation, rates.checksum);
+    format!("{{\"slots\":[{}\n],\"search\":{{{search}}},\"rates\":{{{rate}}}}}\n", slots.join(","))
 }
 
 fn entry(slot: u8, enabled: bool) -> String {

@@ -1,6 +1,6 @@
 //! Drives that the tool makes in memory: to measure this machine by, to have a key's checksum from, and to see where a payload
 //! starts.
-use mivrozh::header::{Header, Names, SECTOR};
+use mivrozh::header::{Header, SECTOR};
 use mivrozh::{Drive, FormatInput, Profile, Refusal, Secret};
 use std::ops::Range;
 
@@ -13,16 +13,15 @@ const CHECKSUM: Range<usize> = 112..168;
 const AMPLE: usize = 16 << 20;
 const UUID: &str = "00000000-0000-0000-0000-000000000000";
 
-/// The profile of a drive whose header the engine has checked.
-pub fn profile_of(image: &[u8]) -> Result<Profile, Refusal> {
-    Names::of(image).and_then(|names| names.profile()).ok_or(Refusal::NoProfile)
+/// What such a drive is made of, with one stripe: this key, and this checksum count.
+pub fn input(profile: Profile, key: &Secret, count: u32) -> FormatInput<'_> {
+    FormatInput::new(profile, key, &[0; 32], count, UUID).stripes(1)
 }
 
 /// A drive with this key, the least checksum count and no passphrase.
 pub fn drive(profile: Profile, key: &Secret, stripes: u32) -> Result<Vec<u8>, Refusal> {
     let mut image = vec![0; AMPLE];
-    let input = FormatInput::new(profile, key, &[0; 32], LEAST_COUNT, UUID);
-    Drive::over(&mut image[..]).format(&input.stripes(stripes))?;
+    Drive::over(&mut image[..]).format(&input(profile, key, LEAST_COUNT).stripes(stripes)).result?;
     Ok(image)
 }
 
@@ -39,7 +38,7 @@ pub struct QuickChecksum([u8; CHECKSUM.end - CHECKSUM.start]);
 impl QuickChecksum {
     /// Of the key of this drive, with its hash.
     pub fn of(image: &[u8], key: &Secret) -> Result<QuickChecksum, Refusal> {
-        let quick = drive(profile_of(image)?, key, 1)?;
+        let quick = drive(Header::of(image)?.profile, key, 1)?;
         Ok(QuickChecksum(std::array::from_fn(|i| quick[CHECKSUM.start + i])))
     }
 
@@ -72,20 +71,23 @@ mod tests {
             let (key, other) = (Secret::from(vec![7; profile.key_bytes()]), Secret::from(vec![8; profile.key_bytes()]));
             let mut image = vec![0; before_payload(profile, 1).expect("a drive") + 3 * SECTOR];
             let mut drive = Drive::over(&mut image[..]);
-            drive.format(&FormatInput::new(profile, &key, &[3; 32], 5000, UUID).stripes(1)).expect("a drive");
+            drive.format(&FormatInput::new(profile, &key, &[3; 32], 5000, UUID).stripes(1)).result.expect("a drive");
             let mut list = vec![0; drive.header().expect("a header").list_length(1)];
-            let _ = drive.add(1, &key, &SlotInput::new(&other, &[4; 32], 1000, &[]), &mut list).expect("a passphrase");
+            let _ = drive
+                .add(1, &key, &SlotInput::new(&other, &[4; 32], 1000, &[]), &mut list)
+                .result
+                .expect("a passphrase");
             let before = image.clone();
-            assert_eq!(profile_of(&image), Ok(profile));
+            assert_eq!(Header::of(&image).map(|header| header.profile), Ok(profile));
             QuickChecksum::of(&image, &key).expect("a checksum").put(&mut image);
             assert_ne!(image[CHECKSUM], before[CHECKSUM]);
             assert_eq!((&image[..112], &image[168..]), (&before[..112], &before[168..]), "nothing else is changed");
             assert_eq!(image[164..168], LEAST_COUNT.to_be_bytes());
             let (mut quick, mut slow) = ([0; 512], [1; 512]);
             let drive = Drive::over(&image[..]);
-            drive.read(&key, PayloadUnit(2), 1, &mut quick).expect("a unit");
-            assert_eq!(drive.read(&other, PayloadUnit(2), 1, &mut slow), Err(Refusal::WrongKey));
-            Drive::over(&before[..]).read(&key, PayloadUnit(2), 1, &mut slow).expect("a unit");
+            drive.read(&key, PayloadUnit(2), 1, &mut quick).result.expect("a unit");
+            assert_eq!(drive.read(&other, PayloadUnit(2), 1, &mut slow).result, Err(Refusal::WrongKey));
+            Drive::over(&before[..]).read(&key, PayloadUnit(2), 1, &mut slow).result.expect("a unit");
             assert_eq!(quick, slow);
         }
     }

@@ -1,5 +1,6 @@
 //! A line typed at a terminal that does not show it. The terminal's own keys mend the line. While it is typed, signals that
-//! end or stop the tool first put the terminal back as it was. Unsafe code, for Linux on x86-64.
+//! end or stop the tool first put the terminal back as it was. And a line that is drawn on standard error, which signals that
+//! end the tool end first. Unsafe code, for Linux on x86-64.
 use mivrozh::Secret;
 use std::cell::UnsafeCell;
 use std::fs::File;
@@ -15,9 +16,11 @@ extern "C" {
     fn tcflush(file: i32, queue: i32) -> i32;
     fn tcgetpgrp(file: i32) -> i32;
     fn getpgrp() -> i32;
+    fn ioctl(file: i32, request: u64, ...) -> i32;
     fn sigaction(number: i32, new: *const Action, old: *mut Action) -> i32;
     fn raise(number: i32) -> i32;
     fn write(file: i32, bytes: *const u8, length: usize) -> isize;
+    fn poll(files: *mut Polled, count: u64, milliseconds: i32) -> i32;
     fn __errno_location() -> *mut i32;
 }
 
@@ -143,9 +146,32 @@ impl Prompt {
     }
 
     fn is_in_foreground(&self) -> bool {
-        // SAFETY: both only look.
-        unsafe { tcgetpgrp(self.terminal) == getpgrp() }
+        is_in_foreground(self.terminal) == Some(true)
     }
+}
+
+// Whether this process is in the foreground of its terminal; nothing where that file is another one.
+fn is_in_foreground(file: i32) -> Option<bool> {
+    // SAFETY: both only look.
+    let (there, own) = unsafe { (tcgetpgrp(file), getpgrp()) };
+    (there != -1).then_some(there == own)
+}
+
+// A file to be looked at, and for what: `struct pollfd` of the C library.
+#[repr(C)]
+struct Polled {
+    file: i32,
+    wanted: i16,
+    found: i16,
+}
+
+const POLLOUT: i16 = 4;
+
+// Whether the file takes a short text within this time; a terminal whose output is halted does not. A handler may call it.
+fn is_writable(file: i32, milliseconds: i32) -> bool {
+    let mut polled = Polled { file, wanted: POLLOUT, found: 0 };
+    // SAFETY: it is one file, with the C library's layout.
+    unsafe { poll(&mut polled, 1, milliseconds) == 1 && polled.found & POLLOUT != 0 }
 }
 
 // Calls until the call is not interrupted.
@@ -192,11 +218,24 @@ impl Action {
             SIGCONT => (go_on, SA_RESTART | SA_NODEFER),
             _ => (end, 0),
         };
-        let mut action = Action { flags, ..Action::of(handler as usize) };
+        let action = Action { flags, ..Action::of(handler as usize) };
         if ENDING.contains(&number) {
-            action.blocked[0] = STOPPING.iter().chain(&ENDING).map(|number| 1u64 << (number - 1)).sum();
+            action.alone()
+        } else {
+            action
         }
-        action
+    }
+
+    // What happens at a signal that ends the tool while a line is drawn.
+    fn at_line(_: i32) -> Action {
+        let handler: extern "C" fn(i32) = end_line;
+        Action::of(handler as usize).alone()
+    }
+
+    // The other signals wait meanwhile.
+    fn alone(mut self) -> Action {
+        self.blocked[0] = STOPPING.iter().chain(&ENDING).map(|number| 1u64 << (number - 1)).sum();
+        self
     }
 
     fn of(handler: usize) -> Action {
@@ -230,6 +269,11 @@ extern "C" fn end(number: i32) {
         prompt.hide();
         prompt.print(b"\n");
     }
+    end_by(number);
+}
+
+// Has the signal end the tool, when its handler has returned.
+fn end_by(number: i32) {
     // Only now: a second signal that came before it is blocked would end the tool at once, and SA_RESETHAND is as early.
     Action::of(DEFAULT).set(number);
     // SAFETY: the signal waits until the handler returns, and then has its default action.
@@ -272,39 +316,112 @@ fn keeping_errno(act: impl FnOnce()) {
     unsafe { *__errno_location() = number };
 }
 
-// The time of a prompt: the handlers stand, and the terminal is silent. A signal that was ignored before stays ignored.
-struct Silence<'a> {
-    prompt: &'a Prompt,
-    before: Vec<(i32, Action)>,
-}
+// What signals did before there were handlers for them. A signal that was ignored stays ignored, and is not among them.
+struct Before(Vec<(i32, Action)>);
 
-impl Silence<'_> {
-    fn begin(prompt: &Prompt) -> io::Result<Silence<'_>> {
-        PROMPT.store(ptr::from_ref(prompt).cast_mut(), SeqCst);
-        let mut silence = Silence { prompt, before: Vec::new() };
-        for number in STOPPING.into_iter().chain(ENDING) {
+impl Before {
+    fn handlers(numbers: impl IntoIterator<Item = i32>, action: fn(i32) -> Action) -> Before {
+        let mut before = Vec::new();
+        for number in numbers {
             let old = Action::now(number);
             if old.handler != IGNORED {
-                Action::at_prompt(number).set(number);
-                silence.before.push((number, old));
+                action(number).set(number);
+                before.push((number, old));
             }
         }
-        prompt.show()?;
-        Ok(silence)
+        Before(before)
     }
 
     fn put_back(&self, numbers: &[i32]) {
-        for (number, old) in self.before.iter().filter(|(number, _)| numbers.contains(number)) {
+        for (number, old) in self.0.iter().filter(|(number, _)| numbers.contains(number)) {
             old.set(*number);
         }
     }
 }
 
+// The time of a prompt: the handlers stand, and the terminal is silent.
+struct Silence<'a> {
+    prompt: &'a Prompt,
+    before: Before,
+}
+
+impl Silence<'_> {
+    fn begin(prompt: &Prompt) -> io::Result<Silence<'_>> {
+        PROMPT.store(ptr::from_ref(prompt).cast_mut(), SeqCst);
+        let before = Before::handlers(STOPPING.into_iter().chain(ENDING), Action::at_prompt);
+        let silence = Silence { prompt, before };
+        prompt.show()?;
+        Ok(silence)
+    }
+}
+
 impl Drop for Silence<'_> {
     fn drop(&mut self) {
-        self.put_back(&STOPPING);
+        self.before.put_back(&STOPPING);
         self.prompt.hide();
-        self.put_back(&ENDING);
+        self.before.put_back(&ENDING);
         PROMPT.store(ptr::null_mut(), SeqCst);
     }
+}
+
+const STANDARD_ERROR: i32 = 2;
+const TIOCGWINSZ: u64 = 0x5413;
+
+/// How many columns the terminal of standard error has; none where it does not say.
+pub fn columns() -> Option<usize> {
+    // Rows, columns, and both in pixels: `struct winsize` of the C library.
+    let mut size = [0u16; 4];
+    // SAFETY: the size has the C library's layout.
+    let told = unsafe { ioctl(STANDARD_ERROR, TIOCGWINSZ, &mut size) } == 0;
+    Some(usize::from(size[1])).filter(|&columns| told && columns > 0)
+}
+
+// Whether a line is drawn that is not ended yet.
+static DRAWN: AtomicBool = AtomicBool::new(false);
+
+/// The time in which a line is drawn on standard error. A signal that ends the tool ends the line first.
+pub struct DrawnLine {
+    before: Before,
+}
+
+impl DrawnLine {
+    pub fn begin() -> DrawnLine {
+        DrawnLine { before: Before::handlers(ENDING, Action::at_line) }
+    }
+
+    /// Puts these bytes on standard error, after which a drawn line stands there or not, and says whether it did. In the
+    /// background nothing is drawn: the terminal is another program's. Nor where its output is halted: the work would wait for
+    /// it. A terminal that is gone by now is no reason to stop.
+    pub fn draw(&self, bytes: &[u8], stands: bool) -> bool {
+        let can_draw = can_draw(if stands { 0 } else { PATIENCE });
+        if can_draw {
+            DRAWN.store(stands, SeqCst);
+            let _ = io::stderr().write_all(bytes);
+        }
+        can_draw
+    }
+}
+
+impl Drop for DrawnLine {
+    fn drop(&mut self) {
+        self.before.put_back(&ENDING);
+        DRAWN.store(false, SeqCst);
+    }
+}
+
+// How many milliseconds a slow terminal gets for the last text of a line.
+const PATIENCE: i32 = 300;
+
+// Whether something can be drawn, within this time.
+fn can_draw(milliseconds: i32) -> bool {
+    is_in_foreground(STANDARD_ERROR) != Some(false) && is_writable(STANDARD_ERROR, milliseconds)
+}
+
+// Ends the tool, on a new line of the terminal.
+extern "C" fn end_line(number: i32) {
+    if DRAWN.swap(false, SeqCst) && can_draw(0) {
+        // SAFETY: the bytes are as many as is said.
+        unsafe { write(STANDARD_ERROR, b"\n".as_ptr(), 1) };
+    }
+    end_by(number);
 }

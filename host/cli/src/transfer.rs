@@ -1,8 +1,10 @@
 //! Moving payload units between the drive and files: chunk by chunk, on all processors, with progress at a terminal.
+use crate::bar;
 use crate::failure::{self, shown, Failure};
 use crate::image::ImageFile;
 use crate::passphrase::{fill, standard_input};
 use crate::pipeline::{self, Steps};
+use crate::rate::Work;
 use crate::small::QuickChecksum;
 use crate::system::{self, Memory};
 use mivrozh::header::{Header, SECTOR};
@@ -30,10 +32,13 @@ pub fn print(text: &str) -> Result<(), Failure> {
     io::stdout().write_all(text.as_bytes()).map_err(|error| Failure::input_output("standard output", &error))
 }
 
-/// Are the units within the payload? Nothing is derived where there is at least one.
+/// Are the units within the payload? Nothing is derived where there is at least one; where there is none the key is tested.
 pub fn check_range(image: &mut ImageFile, key: &Secret, first: u64, units: u64) -> Result<(), Refusal> {
+    let header = image.drive().header()?;
+    let work = if units == 0 { Work::checksum(&header) } else { Work::default() };
     // Without a buffer the engine refuses it (20) right after the range (19).
-    match image.drive().read(key, PayloadUnit(first), units, &mut []) {
+    let read = || image.drive().read(key, PayloadUnit(first), units, &mut []);
+    match bar::during("testing the key", header.profile, work, read).result {
         Err(Refusal::BadBuffer) => Ok(()),
         other => other,
     }
@@ -195,7 +200,7 @@ impl Steps for Reading<'_> {
         let length = chunk.length();
         let plain = &mut chunk.plain.expose_mut()[..length];
         let drive = Drive::over(chunk.memory.bytes());
-        drive.read(self.0.key, PayloadUnit(chunk.first), chunk.units, plain).map_err(Failure::refused)?;
+        drive.read(self.0.key, PayloadUnit(chunk.first), chunk.units, plain).result.map_err(Failure::refused)?;
         chunk.memory.forget(part);
         Ok(())
     }
@@ -268,7 +273,7 @@ impl Steps for Writing<'_> {
         let length = chunk.length();
         let mut drive = Drive::over(chunk.memory.bytes_mut());
         let plain = &chunk.plain.expose()[..length];
-        drive.write(self.payload.key, PayloadUnit(chunk.first), chunk.units, plain).map_err(Failure::refused)
+        drive.write(self.payload.key, PayloadUnit(chunk.first), chunk.units, plain).result.map_err(Failure::refused)
     }
 
     fn give(&self, progress: &mut Progress, chunk: &mut Chunk) -> Result<(), Failure> {

@@ -96,7 +96,7 @@ impl Found {
 
     fn opens(&self, slot: usize, key_file: &str) -> bool {
         let passphrase = Secret::from(format!("passphrase {key_file}").into_bytes());
-        match Drive::over(&self.image[..]).open_slot(slot as u8, &passphrase) {
+        match Drive::over(&self.image[..]).open_slot(slot as u8, &passphrase).result {
             Ok(_) => true,
             Err(Refusal::WrongState | Refusal::WrongKey) => false,
             Err(refusal) => panic!("{refusal}"),
@@ -471,13 +471,13 @@ fn the_drive_is_the_librarys() {
         let (stripes, filler) = (&random[..header.random_length(to)], &random[..header.area_length(from)]);
         let input = SlotInput::new(&two, &salt, 1000, stripes);
         let mut list = vec![0; header.list_length(to)];
-        let key = Drive::over(&before[..]).open(&one).expect("the key").key;
+        let key = Drive::over(&before[..]).open(&one).result.expect("the key").key;
 
         let [mut added, mut changed, mut revoked] = [(); 3].map(|()| before.clone());
-        assert!(Drive::over(&mut added[..]).add(to, &key, &input, &mut list).is_ok());
-        assert!(Drive::over(&mut revoked[..]).revoke(from, filler, &mut list).is_ok());
+        assert!(Drive::over(&mut added[..]).add(to, &key, &input, &mut list).result.is_ok());
+        assert!(Drive::over(&mut revoked[..]).revoke(from, filler, &mut list).result.is_ok());
         let mut list = vec![0; header.change_list_length(from, to)];
-        assert!(Drive::over(&mut changed[..]).change(from, &one, to, &input, filler, &mut list).is_ok());
+        assert!(Drive::over(&mut changed[..]).change(from, &one, to, &input, filler, &mut list).result.is_ok());
 
         let options = "--iterations 1000 --key-file one --new-key-file two drive";
         assert!(uncut(&folder, &format!("add --slot {to} {options}")) == added, "add to {to}");

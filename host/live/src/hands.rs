@@ -6,6 +6,7 @@ use mivrozh::{raw, Drive, Refusal};
 use model::header::Header;
 use model::writes::{self, carry_out, decoded};
 use model::xts::SECTOR;
+use model::{costs, Call};
 use std::path::{Path, PathBuf};
 
 const COUNT: u32 = 1000;
@@ -42,7 +43,7 @@ fn accepted(call: &str, number: u8) -> Outcome<()> {
 /// The key that a passphrase opens, by search.
 pub fn key_of(image: &[u8], passphrase: &str) -> Outcome<Vec<u8>> {
     let mut opened = [0; 66];
-    accepted("open", raw::open(image, passphrase.as_bytes(), &mut opened))?;
+    accepted("open", raw::open(image, passphrase.as_bytes(), &mut opened, &mut 0))?;
     Ok(opened[2..2 + opened[1] as usize].to_vec())
 }
 
@@ -51,6 +52,15 @@ fn answer(number: u8, opened: [u8; 66]) -> Result<u8, u8> {
         Ok(opened[0])
     } else {
         Err(number)
+    }
+}
+
+/// The number of HMAC values that an opening made is what 02's Wish 6 says of it, whoever made the drive.
+fn judge_values(image: &[u8], opening: &Call, number: u8, opened: u8, values: u64) -> Outcome<()> {
+    let said = costs::said(&Header::read(image), opening, number, opened);
+    match values == said {
+        true => Ok(()),
+        false => Err(format!("an opening that ends with {number} has made {values} HMAC values, not {said}")),
     }
 }
 
@@ -86,21 +96,26 @@ impl Hand for Library {
         let mut bytes = load(image)?;
         let key = random(kind.bits / 8)?;
         let uuid = b"6d69767a-6f68-4256-8000-0000000011fe";
-        accepted("format", raw::format(&mut bytes, kind.profile(), 4000, &key, &salt()?, COUNT, uuid))?;
+        accepted("format", raw::format(&mut bytes, kind.profile(), 4000, &key, &salt()?, COUNT, uuid, &mut 0))?;
         let (stripes, mut list) = (random(stripes_of(&bytes, 1, 1))?, list_for(&bytes, &[1]));
-        accepted("add", raw::add(&mut bytes, 1, &key, passphrase.as_bytes(), &salt()?, COUNT, &stripes, &mut list))?;
+        accepted(
+            "add",
+            raw::add(&mut bytes, 1, &key, passphrase.as_bytes(), &salt()?, COUNT, &stripes, &mut list, &mut 0),
+        )?;
         store(image, &bytes)
     }
 
     fn open_slot(&self, image: &Path, slot: u8, passphrase: &str) -> Outcome<Result<u8, u8>> {
-        let mut opened = [0; 66];
-        let number = raw::open_slot(&load(image)?, slot, passphrase.as_bytes(), &mut opened);
+        let (bytes, passphrase, mut opened, mut values) = (load(image)?, passphrase.as_bytes().to_vec(), [0; 66], 0);
+        let number = raw::open_slot(&bytes, slot, &passphrase, &mut opened, &mut values);
+        judge_values(&bytes, &Call::OpenSlot { slot, passphrase }, number, opened[0], values)?;
         Ok(answer(number, opened))
     }
 
     fn open(&self, image: &Path, passphrase: &str) -> Outcome<Result<u8, u8>> {
-        let mut opened = [0; 66];
-        let number = raw::open(&load(image)?, passphrase.as_bytes(), &mut opened);
+        let (bytes, passphrase, mut opened, mut values) = (load(image)?, passphrase.as_bytes().to_vec(), [0; 66], 0);
+        let number = raw::open(&bytes, &passphrase, &mut opened, &mut values);
+        judge_values(&bytes, &Call::Open { passphrase }, number, opened[0], values)?;
         Ok(answer(number, opened))
     }
 
@@ -108,7 +123,10 @@ impl Hand for Library {
         let mut bytes = load(image)?;
         let key = key_of(&bytes, known)?;
         let (stripes, mut list) = (random(stripes_of(&bytes, slot, 1))?, list_for(&bytes, &[slot]));
-        accepted("add", raw::add(&mut bytes, slot, &key, new.as_bytes(), &salt()?, COUNT, &stripes, &mut list))?;
+        accepted(
+            "add",
+            raw::add(&mut bytes, slot, &key, new.as_bytes(), &salt()?, COUNT, &stripes, &mut list, &mut 0),
+        )?;
         store_list(image, &list, &bytes)
     }
 
@@ -116,28 +134,31 @@ impl Hand for Library {
         let mut bytes = load(image)?;
         let (stripes, filler) = (random(stripes_of(&bytes, to, 1))?, random(stripes_of(&bytes, from, 0))?);
         let (old, new, mut list) = (old.as_bytes(), new.as_bytes(), list_for(&bytes, &[to, from]));
-        accepted("change", raw::change(&mut bytes, from, old, to, new, &salt()?, COUNT, &stripes, &filler, &mut list))?;
+        accepted(
+            "change",
+            raw::change(&mut bytes, from, old, to, new, &salt()?, COUNT, &stripes, &filler, &mut list, &mut 0),
+        )?;
         store_list(image, &list, &bytes)
     }
 
     fn revoke(&self, image: &Path, slot: u8) -> Outcome<()> {
         let mut bytes = load(image)?;
         let (filler, mut list) = (random(stripes_of(&bytes, slot, 0))?, list_for(&bytes, &[slot]));
-        accepted("revoke", raw::revoke(&mut bytes, slot, &filler, &mut list))?;
+        accepted("revoke", raw::revoke(&mut bytes, slot, &filler, &mut list, &mut 0))?;
         store_list(image, &list, &bytes)
     }
 
     fn read(&self, image: &Path, passphrase: &str, first: u64, units: u64) -> Outcome<Vec<u8>> {
         let bytes = load(image)?;
         let mut plain = vec![0; units as usize * SECTOR];
-        accepted("read", raw::read(&bytes, &key_of(&bytes, passphrase)?, first, units, &mut plain))?;
+        accepted("read", raw::read(&bytes, &key_of(&bytes, passphrase)?, first, units, &mut plain, &mut 0))?;
         Ok(plain)
     }
 
     fn write(&self, image: &Path, passphrase: &str, first: u64, plain: &[u8]) -> Outcome<()> {
         let mut bytes = load(image)?;
         let key = key_of(&bytes, passphrase)?;
-        accepted("write", raw::write(&mut bytes, &key, first, (plain.len() / SECTOR) as u64, plain))?;
+        accepted("write", raw::write(&mut bytes, &key, first, (plain.len() / SECTOR) as u64, plain, &mut 0))?;
         store(image, &bytes)
     }
 

@@ -71,7 +71,7 @@ fn add(image: &mut [u8], key: &[u8], taken: &Taken) -> Outcome<()> {
     let random = &taken.stripes[..taken.stripes.len() - key.len()];
     let (passphrase, record) = (taken.passphrase.as_bytes(), &taken.record);
     let mut list = list_for(image, &[taken.slot]);
-    match raw::add(image, taken.slot, key, passphrase, &record.salt, record.count, random, &mut list) {
+    match raw::add(image, taken.slot, key, passphrase, &record.salt, record.count, random, &mut list, &mut 0) {
         0 => Ok(()),
         number => Err(format!("add in slot {} is refused by {number}", taken.slot)),
     }
@@ -81,7 +81,7 @@ fn add(image: &mut [u8], key: &[u8], taken: &Taken) -> Outcome<()> {
 fn add_again(theirs: &[u8], key: &[u8], taken: &Taken) -> Outcome<Vec<u8>> {
     let mut image = theirs.to_vec();
     let (filler, mut list) = (random(taken.stripes.len())?, list_for(&image, &[taken.slot]));
-    match raw::revoke(&mut image, taken.slot, &filler, &mut list) {
+    match raw::revoke(&mut image, taken.slot, &filler, &mut list, &mut 0) {
         0 => add(&mut image, key, taken).map(|()| image),
         number => Err(format!("revoke of slot {} is refused by {number}", taken.slot)),
     }
@@ -92,7 +92,7 @@ fn format_again(theirs: &[u8], kind: Kind, key: &[u8], taken: &[Taken]) -> Outco
     let header = Header::read(theirs);
     let mut image = random((payload_start(Maker::Ourselves, kind) + UNITS) * SECTOR)?;
     let uuid = &theirs[at::UUID..at::UUID + 36];
-    match raw::format(&mut image, kind.profile(), 4000, key, &header.salt, header.count, uuid) {
+    match raw::format(&mut image, kind.profile(), 4000, key, &header.salt, header.count, uuid, &mut 0) {
         0 => taken.iter().try_for_each(|one| add(&mut image, key, one)).map(|()| image),
         number => Err(format!("format is refused by {number}")),
     }

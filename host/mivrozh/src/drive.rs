@@ -1,5 +1,5 @@
 //! The calls on a drive.
-use crate::{raw, Header, Profile, Refusal, Secret, SectorWrites, SlotDetails, Slots};
+use crate::{raw, Counted, Header, Profile, Refusal, Secret, SectorWrites, SlotDetails, Slots};
 use std::fmt;
 
 /// A drive in an image that was lent: the header, the eight key areas and the payload.
@@ -7,13 +7,16 @@ use std::fmt;
 /// Over `&image[..]` it can be read; over `&mut image[..]`, or an image of its own such as a `Vec<u8>`, it can be
 /// changed too. A call that is refused has changed nothing.
 ///
+/// The calls that may derive keys give their result [with the number of HMAC values](Counted) that they made; those that only
+/// show what the header says derive nothing.
+///
 /// ```
 /// use mivrozh::{Drive, Refusal};
 ///
 /// let image = [0; 1024];
 /// assert_eq!(Drive::over(&image[..]).check(), Err(Refusal::Magic));
 /// let mut image = [0; 1024];
-/// assert_eq!(Drive::over(&mut image[..]).revoke(1, &[], &mut []), Err(Refusal::Magic));
+/// assert_eq!(Drive::over(&mut image[..]).revoke(1, &[], &mut []).result, Err(Refusal::Magic));
 /// ```
 ///
 /// What can only be read cannot be changed:
@@ -21,7 +24,7 @@ use std::fmt;
 /// ```compile_fail,E0599
 /// # use mivrozh::{Drive, Refusal};
 /// let image = [0; 1024];
-/// assert_eq!(Drive::over(&image[..]).revoke(1, &[], &mut []), Err(Refusal::Magic));
+/// assert_eq!(Drive::over(&image[..]).revoke(1, &[], &mut []).result, Err(Refusal::Magic));
 /// ```
 pub struct Drive<I> {
     image: I,
@@ -138,19 +141,24 @@ impl<I: AsRef<[u8]>> Drive<I> {
         SlotDetails::of(self.image())
     }
 
-    /// Opens one slot.
-    pub fn open_slot(&self, slot: u8, passphrase: &Secret) -> Result<Opened, Refusal> {
-        opened(|buffer| raw::open_slot(self.image(), slot, passphrase.expose(), buffer))
+    /// Opens one slot. It makes as many HMAC values as [`Header::trial_values`] says; none where it is refused with another number
+    /// than 17.
+    pub fn open_slot(&self, slot: u8, passphrase: &Secret) -> Counted<Opened> {
+        opened(|buffer, values| raw::open_slot(self.image(), slot, passphrase.expose(), buffer, values))
     }
 
-    /// Opens the first slot, from 1 to 8, that this passphrase opens.
-    pub fn open(&self, passphrase: &Secret) -> Result<Opened, Refusal> {
-        opened(|buffer| raw::open(self.image(), passphrase.expose(), buffer))
+    /// Opens the first slot, from 1 to 8, that this passphrase opens. Each enabled slot up to the one that opens is tried, and costs
+    /// as many HMAC values as [`Header::trial_values`] says. That is never more than [`Header::search_values`], and where no slot
+    /// opens (17) it is exactly that.
+    pub fn open(&self, passphrase: &Secret) -> Counted<Opened> {
+        opened(|buffer, values| raw::open(self.image(), passphrase.expose(), buffer, values))
     }
 
-    /// Reads and deciphers units of the payload; the buffer has 512 bytes for each.
-    pub fn read(&self, key: &Secret, first: PayloadUnit, units: u64, buffer: &mut [u8]) -> Result<(), Refusal> {
-        Refusal::answer(raw::read(self.image(), key.expose(), first.0, units, buffer))
+    /// Reads and deciphers units of the payload; the buffer has 512 bytes for each. The key is tested by
+    /// [`Header::checksum_values`] HMAC values, also where there are 0 units; none where it is refused with another number than
+    /// 17.
+    pub fn read(&self, key: &Secret, first: PayloadUnit, units: u64, buffer: &mut [u8]) -> Counted<()> {
+        Counted::of(|values| raw::read(self.image(), key.expose(), first.0, units, buffer, values))
     }
 }
 
@@ -158,35 +166,35 @@ impl<I: AsRef<[u8]>> Drive<I> {
 impl<I: AsRef<[u8]> + AsMut<[u8]>> Drive<I> {
     /// Makes a new drive, with no passphrase yet: every key slot is free. The payload starts on a whole mebibyte and keeps its
     /// bytes, so the image has 2 MiB and the payload with 4,000 stripes; 1 MiB and the payload are enough with up to 3,967
-    /// stripes and a key of 32 bytes, and with up to 1,983 and one of 64. Other tools read 4,000 stripes only.
-    pub fn format(&mut self, input: &FormatInput) -> Result<(), Refusal> {
-        Refusal::answer(raw::format(
-            self.image.as_mut(),
-            input.profile.number(),
-            input.stripes,
-            input.key.expose(),
-            input.salt,
-            input.count,
-            input.uuid.as_bytes(),
-        ))
+    /// stripes and a key of 32 bytes, and with up to 1,983 and one of 64. Other tools read 4,000 stripes only. An accepted format
+    /// makes `count` HMAC values, for the key's checksum; a refused one makes none.
+    pub fn format(&mut self, input: &FormatInput) -> Counted<()> {
+        let (image, key, uuid) = (self.image.as_mut(), input.key.expose(), input.uuid.as_bytes());
+        let FormatInput { profile, stripes, salt, count, .. } = *input;
+        Counted::of(|values| raw::format(image, profile.number(), stripes, key, salt, count, uuid, values))
     }
 
     /// Puts the master key under a passphrase into a free slot. The list buffer is as long as [`Header::list_length`] says;
-    /// what it is filled with is what goes to the disk. Where the call is refused, image and buffer stay as they were.
+    /// what it is filled with is what goes to the disk. Where the call is refused, image and buffer stay as they were. It makes
+    /// [`Header::checksum_values`] HMAC values to test the key, where it comes to that, and where it is accepted
+    /// [`Header::derivation_values`] more.
     pub fn add<'l>(
         &mut self,
         slot: u8,
         key: &Secret,
         input: &SlotInput,
         list: &'l mut [u8],
-    ) -> Result<SectorWrites<'l>, Refusal> {
-        let (image, passphrase) = (self.image.as_mut(), input.passphrase.expose());
-        let number = raw::add(image, slot, key.expose(), passphrase, input.salt, input.count, input.random, list);
-        Refusal::answer(number).map(|()| SectorWrites::of(list))
+    ) -> Counted<SectorWrites<'l>> {
+        let (image, key, passphrase) = (self.image.as_mut(), key.expose(), input.passphrase.expose());
+        let SlotInput { salt, count, random, .. } = *input;
+        Counted::of(|values| raw::add(image, slot, key, passphrase, salt, count, random, list, values))
+            .map(|()| SectorWrites::of(list))
     }
 
     /// Opens slot `from`, adds its key to the free slot `to` under the new passphrase, and revokes `from`. The list buffer is as
-    /// long as [`Header::change_list_length`] says. Where the call is refused, image and buffer stay as they were.
+    /// long as [`Header::change_list_length`] says. Where the call is refused, image and buffer stay as they were. It makes
+    /// [`Header::trial_values`] HMAC values of `from`, where it comes to that, and where it is accepted
+    /// [`Header::derivation_values`] more.
     ///
     /// Where the writes were cut while slot `to` is still disabled, the same call, given again before any other, ends the
     /// change. Where `to` is enabled by then, the call is not repeated: a revocation of `from` ends the change, or is refused
@@ -201,25 +209,27 @@ impl<I: AsRef<[u8]> + AsMut<[u8]>> Drive<I> {
         input: &SlotInput,
         filler: &[u8],
         list: &'l mut [u8],
-    ) -> Result<SectorWrites<'l>, Refusal> {
+    ) -> Counted<SectorWrites<'l>> {
         let (image, old, new) = (self.image.as_mut(), old.expose(), input.passphrase.expose());
-        let number = raw::change(image, from, old, to, new, input.salt, input.count, input.random, filler, list);
-        Refusal::answer(number).map(|()| SectorWrites::of(list))
+        let SlotInput { salt, count, random, .. } = *input;
+        Counted::of(|values| raw::change(image, from, old, to, new, salt, count, random, filler, list, values))
+            .map(|()| SectorWrites::of(list))
     }
 
     /// Frees a slot and overwrites its area with the filler, as long as [`Header::area_length`] says. The list buffer is as
     /// long as [`Header::list_length`] says. Where the call is refused, image and buffer stay as they were.
     ///
     /// Where the writes were cut, the slot may still be enabled, and open with no passphrase: until the same call is given
-    /// again, it counts as another slot in use where another is revoked.
-    pub fn revoke<'l>(&mut self, slot: u8, filler: &[u8], list: &'l mut [u8]) -> Result<SectorWrites<'l>, Refusal> {
-        let number = raw::revoke(self.image.as_mut(), slot, filler, list);
-        Refusal::answer(number).map(|()| SectorWrites::of(list))
+    /// again, it counts as another slot in use where another is revoked. No HMAC value is made.
+    pub fn revoke<'l>(&mut self, slot: u8, filler: &[u8], list: &'l mut [u8]) -> Counted<SectorWrites<'l>> {
+        let image = self.image.as_mut();
+        Counted::of(|values| raw::revoke(image, slot, filler, list, values)).map(|()| SectorWrites::of(list))
     }
 
-    /// Enciphers and writes units of the payload; the buffer has 512 bytes for each.
-    pub fn write(&mut self, key: &Secret, first: PayloadUnit, units: u64, buffer: &[u8]) -> Result<(), Refusal> {
-        Refusal::answer(raw::write(self.image.as_mut(), key.expose(), first.0, units, buffer))
+    /// Enciphers and writes units of the payload; the buffer has 512 bytes for each. The key is tested as for a
+    /// [reading](Drive::read).
+    pub fn write(&mut self, key: &Secret, first: PayloadUnit, units: u64, buffer: &[u8]) -> Counted<()> {
+        Counted::of(|values| raw::write(self.image.as_mut(), key.expose(), first.0, units, buffer, values))
     }
 }
 
@@ -250,9 +260,10 @@ impl fmt::Debug for SlotInput<'_> {
 }
 
 // Lends a buffer of 66 bytes to an opening: slot, key length and the 64 key bytes. It is wiped.
-fn opened(open: impl FnOnce(&mut [u8; 66]) -> u8) -> Result<Opened, Refusal> {
+fn opened(open: impl FnOnce(&mut [u8; 66], &mut u64) -> u8) -> Counted<Opened> {
     let mut buffer = Secret::zeroed(66);
-    Refusal::answer(open(buffer.expose_mut().try_into().expect("66 bytes")))?;
-    let [slot, length, ref key @ ..] = *buffer.expose() else { unreachable!("66 bytes") };
-    Ok(Opened { slot, key: Secret::from(&key[..usize::from(length)]) })
+    Counted::of(|values| open(buffer.expose_mut().try_into().expect("66 bytes"), values)).map(|()| {
+        let [slot, length, ref key @ ..] = *buffer.expose() else { unreachable!("66 bytes") };
+        Opened { slot, key: Secret::from(&key[..usize::from(length)]) }
+    })
 }

@@ -1,7 +1,8 @@
-//! The numbers of a header that a caller needs before a call: key length, payload start, and the key slots' areas.
+//! The numbers of a header that a caller needs before a call: key length, payload start, the key slots' areas, and how many
+//! HMAC values a call will make.
 //!
 //! Whether a header is one is the engine's judgement, and what is said of the slots its answer. Key length, payload
-//! start, UUID and names are returned by no call: the binding reads them itself.
+//! start, the count of the key's checksum, UUID and names are returned by no call: the binding reads them itself.
 use crate::slots::{Slot, SlotDetails};
 use crate::writes::ENTRY;
 use crate::{Hash, Profile, Refusal};
@@ -29,6 +30,10 @@ pub struct Header {
     pub payload_start: u32,
     /// Length of the master key.
     pub key_bytes: u32,
+    /// Cipher, hash and key length.
+    pub profile: Profile,
+    /// Iterations of the key's checksum.
+    pub checksum_count: u32,
     uuid: [u8; UUID.end - UUID.start],
     slots: SlotDetails,
 }
@@ -37,8 +42,11 @@ impl Header {
     /// Has the engine check the header of an image and say what its slots are, and reads the rest.
     pub fn of(image: &[u8]) -> Result<Header, Refusal> {
         let slots = SlotDetails::of(image)?;
+        // The engine has found a profile too, so there is one.
+        let profile = Names::of(image).and_then(|names| names.profile()).ok_or(Refusal::NoProfile)?;
         let uuid = image[UUID].try_into().expect("a range of its length");
-        Ok(Header { payload_start: number_at(image, 104), key_bytes: number_at(image, 108), uuid, slots })
+        let (payload_start, key_bytes) = (number_at(image, 104), number_at(image, 108));
+        Ok(Header { payload_start, key_bytes, profile, checksum_count: number_at(image, 164), uuid, slots })
     }
 
     /// The slots, as the engine shows them.
@@ -75,6 +83,32 @@ impl Header {
     /// How long the list buffer of a change must be: as long as those of both slots, whose stripes may differ.
     pub fn change_list_length(&self, from: u8, to: u8) -> usize {
         self.list_length(from) + self.list_length(to)
+    }
+
+    /// How many HMAC values a test of a key makes: its checksum is one block of PBKDF2.
+    pub fn checksum_values(&self) -> u64 {
+        self.checksum_count.into()
+    }
+
+    /// How many HMAC values the derivation of a slot's key makes with this count. An accepted addition makes those of the checksum
+    /// and these, an accepted change those of the first slot's trial and these.
+    pub fn derivation_values(&self, count: u32) -> u64 {
+        self.profile.derivation_values(count)
+    }
+
+    /// How many HMAC values a trial of the slot makes, whether it opens or not: a derivation with its count, and a checksum. 0
+    /// where the slot is disabled, or there is none: then nothing is tried.
+    pub fn trial_values(&self, slot: u8) -> u64 {
+        let enabled = self.slot(slot).filter(|slot| slot.enabled);
+        enabled.map_or(0, |slot| self.derivation_values(slot.count) + self.checksum_values())
+    }
+
+    /// How many HMAC values a search makes that finds nothing: those of the trials of all enabled slots. One that finds a slot
+    /// makes no more.
+    ///
+    /// The largest sum of a header, eight slots with counts of 2^32 - 1 and keys of four blocks, is 171,798,691,800.
+    pub fn search_values(&self) -> u64 {
+        (1..=SLOTS).map(|slot| self.trial_values(slot)).sum()
     }
 }
 

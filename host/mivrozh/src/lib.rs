@@ -3,7 +3,7 @@
 //! A [`Drive`] stands over an image that its user lends; its methods are the engine's calls. Salts, random bytes and
 //! filler are the caller's. Keys and passphrases are [`Secret`]s, and [`lock_stack`] keeps the engine's own frames in
 //! memory. What an addition, a change or a revocation has to write to the disk is its [`SectorWrites`], which a loss of power
-//! may cut anywhere.
+//! may cut anywhere. Beside each result stands how many HMAC values the call made: [`Counted`].
 //!
 //! ```
 //! use mivrozh::{Drive, FormatInput, PayloadUnit, Profile, Secret, SlotInput};
@@ -13,18 +13,19 @@
 //! let (salt, random) = ([9; 32], []); // From a good source of randomness in earnest.
 //! let mut drive = Drive::over(&mut image[..]);
 //! let uuid = "6a2b1f0e-3c4d-4e5f-8a9b-0c1d2e3f4a5b";
-//! drive.format(&FormatInput::new(Profile::Key512, &key, &salt, 1000, uuid).stripes(1))?;
+//! drive.format(&FormatInput::new(Profile::Key512, &key, &salt, 1000, uuid).stripes(1)).result?;
 //! let mut list = vec![0; drive.header()?.list_length(1)];
-//! let writes = drive.add(1, &key, &SlotInput::new(&passphrase, &salt, 1000, &random), &mut list)?;
+//! let writes = drive.add(1, &key, &SlotInput::new(&passphrase, &salt, 1000, &random), &mut list).result?;
 //! assert!(writes.into_iter().map(|write| write.sector).eq([8, 1, 0])); // What goes to the disk, in this order.
 //! assert!(drive.slots()?.enabled().eq([1]));
-//! let opened = drive.open(&passphrase)?;
+//! let opened = drive.open(&passphrase).result?;
 //! assert_eq!(opened.slot, 1);
-//! drive.write(&opened.key, PayloadUnit(0), 1, &[1; 512])?;
+//! drive.write(&opened.key, PayloadUnit(0), 1, &[1; 512]).result?;
 //! # Ok::<(), mivrozh::Refusal>(())
 //! ```
 #![deny(unsafe_code)]
 
+mod counted;
 mod drive;
 pub mod header;
 #[allow(unsafe_code)]
@@ -38,6 +39,7 @@ mod secret;
 mod slots;
 mod writes;
 
+pub use counted::Counted;
 pub use drive::{Drive, FormatInput, Opened, PayloadUnit, SlotInput};
 pub use header::Header;
 pub use memory::{lock_stack, LOCKED_STACK};

@@ -20,6 +20,14 @@ impl Hash {
         }
     }
 
+    /// Bytes of its digest, and so of a block of PBKDF2.
+    pub fn digest_bytes(self) -> usize {
+        match self {
+            Hash::Sha1 => 20,
+            Hash::Sha256 => 32,
+        }
+    }
+
     /// The hash with this name.
     pub fn named(name: &str) -> Option<Hash> {
         Hash::ALL.iter().copied().find(|hash| hash.name() == name)
@@ -80,6 +88,19 @@ impl Profile {
             Profile::Key256 | Profile::Sha256Key256 => 32,
             Profile::Key512 | Profile::Sha256Key512 => 64,
         }
+    }
+
+    /// How many HMAC values a derivation of a key makes with this count: the count for each block of a digest's length, of which
+    /// the last may be cropped.
+    ///
+    /// ```
+    /// use mivrozh::Profile;
+    ///
+    /// assert_eq!(Profile::Key256.derivation_values(1001), 2002); // 32 bytes are two blocks of 20.
+    /// assert_eq!(Profile::Sha256Key512.derivation_values(1000), 2000); // 64 are two of 32.
+    /// ```
+    pub fn derivation_values(self, count: u32) -> u64 {
+        u64::from(count) * self.key_bytes().div_ceil(self.hash().digest_bytes()) as u64
     }
 
     /// The number, from 1 on, that the engine has for it.

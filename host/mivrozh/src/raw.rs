@@ -2,7 +2,8 @@
 //! and in the module `memory`.
 //!
 //! Each function mirrors the one of `include/mivrozh.h` that it is named after: it returns 0, or the number of the
-//! refusal. After each call the stack that it used is wiped.
+//! refusal, and fills `values`, where it has that, with the number of HMAC values it made, also where it is refused.
+//! After each call the stack that it used is wiped.
 
 extern "C" {
     fn mivrozh_format(
@@ -16,6 +17,7 @@ extern "C" {
         count: u32,
         uuid: *const u8,
         uuid_len: usize,
+        values: *mut u64,
     ) -> u8;
     fn mivrozh_add(
         image: *mut u8,
@@ -31,6 +33,7 @@ extern "C" {
         random_len: usize,
         list: *mut u8,
         list_len: usize,
+        values: *mut u64,
     ) -> u8;
     fn mivrozh_open_slot(
         image: *const u8,
@@ -39,6 +42,7 @@ extern "C" {
         passphrase: *const u8,
         passphrase_len: usize,
         opened: *mut u8,
+        values: *mut u64,
     ) -> u8;
     fn mivrozh_open(
         image: *const u8,
@@ -46,6 +50,7 @@ extern "C" {
         passphrase: *const u8,
         passphrase_len: usize,
         opened: *mut u8,
+        values: *mut u64,
     ) -> u8;
     fn mivrozh_change(
         image: *mut u8,
@@ -64,6 +69,7 @@ extern "C" {
         filler_len: usize,
         list: *mut u8,
         list_len: usize,
+        values: *mut u64,
     ) -> u8;
     fn mivrozh_revoke(
         image: *mut u8,
@@ -73,6 +79,7 @@ extern "C" {
         filler_len: usize,
         list: *mut u8,
         list_len: usize,
+        values: *mut u64,
     ) -> u8;
     fn mivrozh_slots(image: *const u8, image_len: usize, enabled: *mut u8) -> u8;
     fn mivrozh_slot_details(
@@ -92,6 +99,7 @@ extern "C" {
         units: u64,
         buffer: *mut u8,
         buffer_len: usize,
+        values: *mut u64,
     ) -> u8;
     fn mivrozh_write(
         image: *mut u8,
@@ -102,6 +110,7 @@ extern "C" {
         units: u64,
         buffer: *const u8,
         buffer_len: usize,
+        values: *mut u64,
     ) -> u8;
 }
 
@@ -110,7 +119,17 @@ extern "C" {
 // what is written apart from all else. The engine keeps no pointer, has no global state, and accepts every value of its
 // arguments: it is proved without a precondition.
 
-pub fn format(image: &mut [u8], profile: u8, stripes: u32, key: &[u8], salt: &[u8; 32], count: u32, uuid: &[u8]) -> u8 {
+#[allow(clippy::too_many_arguments)]
+pub fn format(
+    image: &mut [u8],
+    profile: u8,
+    stripes: u32,
+    key: &[u8],
+    salt: &[u8; 32],
+    count: u32,
+    uuid: &[u8],
+    values: &mut u64,
+) -> u8 {
     // SAFETY: live, separate references with their lengths, as said above.
     then_wipe(|| unsafe {
         mivrozh_format(
@@ -124,6 +143,7 @@ pub fn format(image: &mut [u8], profile: u8, stripes: u32, key: &[u8], salt: &[u
             count,
             uuid.as_ptr(),
             uuid.len(),
+            values,
         )
     })
 }
@@ -138,6 +158,7 @@ pub fn add(
     count: u32,
     random: &[u8],
     list: &mut [u8],
+    values: &mut u64,
 ) -> u8 {
     // SAFETY: live, separate references with their lengths, as said above.
     then_wipe(|| unsafe {
@@ -155,21 +176,30 @@ pub fn add(
             random.len(),
             list.as_mut_ptr(),
             list.len(),
+            values,
         )
     })
 }
 
-pub fn open_slot(image: &[u8], slot: u8, passphrase: &[u8], opened: &mut [u8; 66]) -> u8 {
+pub fn open_slot(image: &[u8], slot: u8, passphrase: &[u8], opened: &mut [u8; 66], values: &mut u64) -> u8 {
     // SAFETY: live, separate references with their lengths, as said above; `opened` has the 66 bytes that are written.
     then_wipe(|| unsafe {
-        mivrozh_open_slot(image.as_ptr(), image.len(), slot, passphrase.as_ptr(), passphrase.len(), opened.as_mut_ptr())
+        mivrozh_open_slot(
+            image.as_ptr(),
+            image.len(),
+            slot,
+            passphrase.as_ptr(),
+            passphrase.len(),
+            opened.as_mut_ptr(),
+            values,
+        )
     })
 }
 
-pub fn open(image: &[u8], passphrase: &[u8], opened: &mut [u8; 66]) -> u8 {
+pub fn open(image: &[u8], passphrase: &[u8], opened: &mut [u8; 66], values: &mut u64) -> u8 {
     // SAFETY: live, separate references with their lengths, as said above; `opened` has the 66 bytes that are written.
     then_wipe(|| unsafe {
-        mivrozh_open(image.as_ptr(), image.len(), passphrase.as_ptr(), passphrase.len(), opened.as_mut_ptr())
+        mivrozh_open(image.as_ptr(), image.len(), passphrase.as_ptr(), passphrase.len(), opened.as_mut_ptr(), values)
     })
 }
 
@@ -185,6 +215,7 @@ pub fn change(
     random: &[u8],
     filler: &[u8],
     list: &mut [u8],
+    values: &mut u64,
 ) -> u8 {
     // SAFETY: live, separate references with their lengths, as said above.
     then_wipe(|| unsafe {
@@ -205,11 +236,12 @@ pub fn change(
             filler.len(),
             list.as_mut_ptr(),
             list.len(),
+            values,
         )
     })
 }
 
-pub fn revoke(image: &mut [u8], slot: u8, filler: &[u8], list: &mut [u8]) -> u8 {
+pub fn revoke(image: &mut [u8], slot: u8, filler: &[u8], list: &mut [u8], values: &mut u64) -> u8 {
     // SAFETY: live, separate references with their lengths, as said above.
     then_wipe(|| unsafe {
         mivrozh_revoke(
@@ -220,6 +252,7 @@ pub fn revoke(image: &mut [u8], slot: u8, filler: &[u8], list: &mut [u8]) -> u8 
             filler.len(),
             list.as_mut_ptr(),
             list.len(),
+            values,
         )
     })
 }
@@ -249,7 +282,7 @@ pub fn slot_details(
     })
 }
 
-pub fn read(image: &[u8], key: &[u8], first: u64, units: u64, buffer: &mut [u8]) -> u8 {
+pub fn read(image: &[u8], key: &[u8], first: u64, units: u64, buffer: &mut [u8], values: &mut u64) -> u8 {
     // SAFETY: live, separate references with their lengths, as said above.
     then_wipe(|| unsafe {
         mivrozh_read(
@@ -261,11 +294,12 @@ pub fn read(image: &[u8], key: &[u8], first: u64, units: u64, buffer: &mut [u8])
             units,
             buffer.as_mut_ptr(),
             buffer.len(),
+            values,
         )
     })
 }
 
-pub fn write(image: &mut [u8], key: &[u8], first: u64, units: u64, buffer: &[u8]) -> u8 {
+pub fn write(image: &mut [u8], key: &[u8], first: u64, units: u64, buffer: &[u8], values: &mut u64) -> u8 {
     // SAFETY: live, separate references with their lengths, as said above.
     then_wipe(|| unsafe {
         mivrozh_write(
@@ -277,13 +311,14 @@ pub fn write(image: &mut [u8], key: &[u8], first: u64, units: u64, buffer: &[u8]
             units,
             buffer.as_ptr(),
             buffer.len(),
+            values,
         )
     })
 }
 
 /// A bound on the stack of a call, in bytes; `include/mivrozh.h` has the same. Measured by `tests/stack.rs` at 4,000
-/// stripes and a key of 64 bytes, the larger figure of both hashes: format 5,279, add 34,407, open by number 42,791,
-/// open 42,887, change 43,255, revoke 1,214, slots 1,006, slot details 1,358, read 33,623, write 33,623.
+/// stripes and a key of 64 bytes, the larger figure of both hashes: format 5,327, add 34,407, open by number 42,903,
+/// open 42,903, change 43,271, revoke 1,214, slots 1,006, slot details 1,358, read 33,639, write 33,639.
 pub const MOST_STACK: usize = 56 * 1024;
 
 /// How many bytes of stack are wiped after each call: as many, and 8 KiB for the frames around it.

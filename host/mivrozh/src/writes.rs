@@ -24,13 +24,13 @@ type Entry = [u8; ENTRY];
 /// # let (key, passphrase, salt) = (Secret::zeroed(32), Secret::zeroed(8), [0; 32]);
 /// # let uuid = "6a2b1f0e-3c4d-4e5f-8a9b-0c1d2e3f4a5b";
 /// # let mut image = vec![0; 1 << 20];
-/// # Drive::over(&mut image).format(&FormatInput::new(Profile::Key256, &key, &salt, 1000, uuid).stripes(17))?;
+/// # Drive::over(&mut image).format(&FormatInput::new(Profile::Key256, &key, &salt, 1000, uuid).stripes(17)).result?;
 /// # let random = [0; 16 * 32];
 /// # let input = SlotInput::new(&passphrase, &salt, 1000, &random);
 /// let mut disk = std::io::Cursor::new(image.clone()); // In earnest the file or device that the image came from.
 /// let mut drive = Drive::over(&mut image);
 /// let mut list = vec![0; drive.header()?.list_length(1)];
-/// let writes = drive.add(1, &key, &input, &mut list)?;
+/// let writes = drive.add(1, &key, &input, &mut list).result?;
 /// assert!(writes.into_iter().map(|write| write.sector).eq([8, 9, 1, 0]));
 /// // Here a file is flushed to the disk, by `File::sync_data`, and below again after each stage.
 /// for stage in writes.stages() {

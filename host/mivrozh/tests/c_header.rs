@@ -68,12 +68,13 @@ fn the_header_is_for_cpp_too() {
     let source = Path::new(env!("CARGO_TARGET_TMPDIR")).join("header.cpp");
     let text = "#include <mivrozh.h>\n\
         int main() {\n\
-            uint8_t opened[66], number = mivrozh_open(nullptr, 0, nullptr, 0, opened), enabled[8];\n\
+            uint64_t values = 9;\n\
+            uint8_t opened[66], number = mivrozh_open(nullptr, 0, nullptr, 0, opened, &values), enabled[8];\n\
             uint32_t counts[8], starts[8], stripes[8];\n\
             mivrozh_wipe_stack();\n\
             if (mivrozh_slots(nullptr, 0, enabled) != 1) return 1;\n\
             if (mivrozh_slot_details(nullptr, 0, enabled, counts, starts, stripes) != 1) return 1;\n\
-            if (mivrozh_revoke(nullptr, 0, 1, nullptr, 0, nullptr, 0) != 1) return 1;\n\
+            if (mivrozh_revoke(nullptr, 0, 1, nullptr, 0, nullptr, 0, &values) != 1 || values != 0) return 1;\n\
             return number == 1 ? 0 : 1;\n\
         }\n";
     std::fs::write(&source, text).expect("a file in the target folder");

@@ -3,8 +3,9 @@
  * master keys, passphrases, stripes, filler and plaintext as undefined and makes every call; memcheck follows each of their bits
  * through the library and reports the jumps and the addresses that depend on one. No report is suppressed.
  *
- * What is public: lengths, counts, salts, numbers of slots and units, which were never marked; the image after a call, since it lies
- * on the drive; and the 20 bytes of a key's checksum, by which a key is judged. The last two are declared so, by `declare_public`.
+ * What is public: lengths, counts, salts, numbers of slots and units, which were never marked; how many HMAC values a call made, which
+ * must be unmarked and the number of mivrozh.h's COST; the image after a call, since it lies on the drive; and the 20 bytes of a
+ * key's checksum, by which a key is judged. The last two are declared so, by `declare_public`.
  *
  *   constant_time             every call; its last line is "all as expected", or it fails
  *   constant_time --verdict   the same with the checksums left secret: memcheck must report the library's comparison of them
@@ -35,6 +36,8 @@ static size_t length;
 static uint8_t key[MOST_KEY], passphrases[PASSPHRASES][80], random_bytes[MOST_AREA], plain[MOST_UNITS * UNIT];
 static uint8_t lent_key[MOST_KEY], lent_old[80], lent_new[80], lent_random[MOST_AREA], lent_filler[MOST_AREA];
 static uint8_t image[IMAGE], salt[32], opened[66], buffer[MOST_UNITS * UNIT], list[2 * MOST_LIST];
+/* How many HMAC values the last call made. */
+static uint64_t values;
 
 /* How many checksums the library has derived, and whether they stay secret. */
 static unsigned checksums, checksums_are_secret;
@@ -100,6 +103,27 @@ static void expect(const char *what, unsigned number, unsigned expected) {
     must(number == expected, what);
 }
 
+/* The number of HMAC values must be public and the expected one. */
+static void expect_values(uint64_t expected) {
+    must(is_public(&values, sizeof values), "the number of HMAC values comes from no secret");
+    declare_public(&values, sizeof values);
+    must(values == expected, "the number of HMAC values");
+}
+
+/* HMAC values of so many derived bytes, of a slot's key, and of a trial of a slot. Every count is COUNT. */
+static uint64_t values_of(size_t many) {
+    size_t digest = profile <= 2 ? 20 : 32;
+    return COUNT * ((many + digest - 1) / digest);
+}
+
+static uint64_t derivation(void) {
+    return values_of(length);
+}
+
+static uint64_t trial(void) {
+    return derivation() + values_of(CHECKSUM);
+}
+
 static unsigned be32(const uint8_t *bytes) {
     return (unsigned)bytes[0] << 24 | (unsigned)bytes[1] << 16 | (unsigned)bytes[2] << 8 | bytes[3];
 }
@@ -139,35 +163,42 @@ static void expect_list(size_t from, unsigned slot) {
 }
 
 /*
- * Around the library's PBKDF2, by valgrind. The arguments are what is made, its length, the hash, the passphrase, the salt, the count. What has
- * 20 bytes is the checksum of a key and is public: that of the drive's key stands in the header, and whether that of another differs is
+ * Around the library's PBKDF2, by valgrind. The arguments are what is made, its length, the hash, the passphrase, the salt, the count; it
+ * returns the number of HMAC values. What has 20 bytes is the checksum of a key and is public: that of the drive's key stands in the header, and whether that of another differs is
  * what the call answers. How many of its first bytes are the same may show too, since the comparison ends at the first that differs.
  */
-void I_WRAP_SONAME_FNNAME_ZZ(NONE, pbkdf2ZcZcpbkdf2)(uint8_t *made, size_t many, size_t hash, const void *from, const void *with, size_t count) {
+uint64_t I_WRAP_SONAME_FNNAME_ZZ(NONE, pbkdf2ZcZcpbkdf2)(uint8_t *made, size_t many, size_t hash, const void *from, const void *with, size_t count) {
     OrigFn library;
+    uint64_t number;
     VALGRIND_GET_ORIG_FN(library);
-    CALL_FN_v_6W(library, made, many, hash, from, with, count);
+    CALL_FN_W_6W(number, library, made, many, hash, from, with, count);
     must(many == CHECKSUM || many == length, "a checksum, or a key as long as the drive's");
     must(is_secret(made, many), "the marks have gone through PBKDF2");
-    if (many != CHECKSUM) return;
+    must(has_marks(&number, sizeof number, 0) && number == values_of(many), "the number of HMAC values comes from no secret");
+    if (many != CHECKSUM) return number;
     checksums++;
     if (!checksums_are_secret) declare_public(made, many);
+    return number;
 }
 
 static void format(void) {
-    unsigned number = mivrozh_format(image, IMAGE, (uint8_t)profile, stripes, secret(lent_key, key, length), length, salt, COUNT, UUID, 36);
+    unsigned number = mivrozh_format(image, IMAGE, (uint8_t)profile, stripes, secret(lent_key, key, length), length, salt, COUNT, UUID,
+                                     36, &values);
     declare_public(image, IMAGE);
     expect("format", number, 0);
+    expect_values(COUNT);
 }
 
 static void add(unsigned slot, enum passphrase which) {
     size_t many = (stripes - 1) * length;
     unsigned number = mivrozh_add(image, IMAGE, (uint8_t)slot, secret(lent_key, key, length), length, secret_passphrase(lent_new, which),
-                                  LENGTHS[which], salt, COUNT, secret(lent_random, random_bytes, many), many, list, list_bytes());
+                                  LENGTHS[which], salt, COUNT, secret(lent_random, random_bytes, many), many, list, list_bytes(),
+                                  &values);
     must(is_secret(area(slot), area_bytes()), "the marks have gone to the area");
     expect_list(0, slot);
     declare_public(image, IMAGE);
     expect("add", number, 0);
+    expect_values(COUNT + derivation());
 }
 
 /* What an opening gave: the key is marked, and is the drive's. */
@@ -178,21 +209,25 @@ static void expect_key(unsigned slot) {
 }
 
 static void open_slot(unsigned slot, enum passphrase which) {
-    unsigned number = mivrozh_open_slot(image, IMAGE, (uint8_t)slot, secret_passphrase(lent_old, which), LENGTHS[which], opened);
+    unsigned number = mivrozh_open_slot(image, IMAGE, (uint8_t)slot, secret_passphrase(lent_old, which), LENGTHS[which], opened, &values);
     expect("open, by number", number, 0);
+    expect_values(trial());
     expect_key(slot);
 }
 
-static void open_any(enum passphrase which, unsigned slot) {
-    unsigned number = mivrozh_open(image, IMAGE, secret_passphrase(lent_old, which), LENGTHS[which], opened);
+/* Opens this slot, the last of so many that are tried. */
+static void open_any(enum passphrase which, unsigned slot, unsigned tried) {
+    unsigned number = mivrozh_open(image, IMAGE, secret_passphrase(lent_old, which), LENGTHS[which], opened, &values);
     expect("open", number, 0);
+    expect_values(tried * trial());
     expect_key(slot);
 }
 
-static void open_refused(enum passphrase which) {
+static void open_refused(enum passphrase which, unsigned tried) {
     static const uint8_t zeros[66];
-    unsigned number = mivrozh_open(image, IMAGE, secret_passphrase(lent_old, which), LENGTHS[which], opened);
+    unsigned number = mivrozh_open(image, IMAGE, secret_passphrase(lent_old, which), LENGTHS[which], opened, &values);
     expect("open, wrong passphrase", number, 17);
+    expect_values(tried * trial());
     must(is_public(opened, sizeof opened), "a refused opening gives nothing");
     declare_public(opened, sizeof opened);
     must(memcmp(opened, zeros, sizeof zeros) == 0, "a refused opening gives zeros");
@@ -203,21 +238,24 @@ static void change(unsigned from, enum passphrase old, unsigned to, enum passphr
     unsigned number = mivrozh_change(image, IMAGE, (uint8_t)from, secret_passphrase(lent_old, old), LENGTHS[old], (uint8_t)to,
                                      secret_passphrase(lent_new, new), LENGTHS[new], salt, COUNT,
                                      secret(lent_random, random_bytes, many), many, secret(lent_filler, random_bytes, all), all,
-                                     list, 2 * list_bytes());
+                                     list, 2 * list_bytes(), &values);
     must(is_secret(area(from), all) && is_secret(area(to), all), "the marks have gone to both areas");
     expect_list(0, to);
     expect_list(list_bytes(), from);
     declare_public(image, IMAGE);
     expect("change", number, 0);
+    expect_values(trial() + derivation());
 }
 
 static void revoke(unsigned slot) {
     size_t all = area_bytes();
-    unsigned number = mivrozh_revoke(image, IMAGE, (uint8_t)slot, secret(lent_filler, random_bytes, all), all, list, list_bytes());
+    unsigned number = mivrozh_revoke(image, IMAGE, (uint8_t)slot, secret(lent_filler, random_bytes, all), all, list, list_bytes(),
+                                     &values);
     must(is_secret(area(slot), all), "the marks of the filler have gone to the area");
     expect_list(0, slot);
     declare_public(image, IMAGE);
     expect("revoke", number, 0);
+    expect_values(0);
 }
 
 /*
@@ -249,11 +287,13 @@ static void show(unsigned one, unsigned other) {
 
 static void write_units(uint64_t first, size_t units) {
     size_t many = units * UNIT;
-    unsigned number = mivrozh_write(image, IMAGE, secret(lent_key, key, length), length, first, units, secret(buffer, plain, many), many);
+    unsigned number = mivrozh_write(image, IMAGE, secret(lent_key, key, length), length, first, units, secret(buffer, plain, many), many,
+                                    &values);
     must(is_secret(payload() + first * UNIT, many), "the marks have gone to the payload");
     declare_public(image, IMAGE);
     printf("%2zu units: ", units);
     expect("write", number, 0);
+    expect_values(COUNT);
 }
 
 /* The units are public as they lie on the drive, and the key alone is secret. */
@@ -261,18 +301,20 @@ static void read_units(uint64_t first, size_t units) {
     size_t many = units * UNIT;
     unsigned number;
     memset(buffer, 0, many);
-    number = mivrozh_read(image, IMAGE, secret(lent_key, key, length), length, first, units, buffer, many);
+    number = mivrozh_read(image, IMAGE, secret(lent_key, key, length), length, first, units, buffer, many, &values);
     must(is_secret(buffer, many), "the marks of the key have gone to what was read");
     declare_public(buffer, many);
     printf("%2zu units: ", units);
     expect("read", number, 0);
+    expect_values(COUNT);
     must(memcmp(buffer, plain, many) == 0, "what was written is read");
 }
 
 /* With a key that is not the drive's. */
 static void read_refused(void) {
-    unsigned number = mivrozh_read(image, IMAGE, secret(lent_key, plain, length), length, 0, 1, buffer, UNIT);
+    unsigned number = mivrozh_read(image, IMAGE, secret(lent_key, plain, length), length, 0, 1, buffer, UNIT, &values);
     expect("read, wrong key", number, 17);
+    expect_values(COUNT);
 }
 
 /* Every call on a drive. AES works on 32 blocks at a time, so on 32 tweaks, or on the 32 blocks of a unit: the runs are shorter and longer. */
@@ -285,12 +327,12 @@ static void life_of_a_drive(unsigned which_profile, unsigned number_of_stripes) 
     add(2, SECOND);
     show(1, 2);
     open_slot(2, SECOND);
-    open_any(SECOND, 2);
-    open_refused(THIRD);
+    open_any(SECOND, 2, 2);
+    open_refused(THIRD, 2);
     change(1, FIRST, 3, THIRD);
     revoke(2);
     show(3, 3);
-    open_any(THIRD, 3);
+    open_any(THIRD, 3, 1);
     for (size_t run = 0; run < sizeof RUNS / sizeof RUNS[0]; run++) {
         write_units(run, RUNS[run]);
         read_units(run, RUNS[run]);

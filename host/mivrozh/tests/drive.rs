@@ -29,9 +29,9 @@ fn image(profile: Profile) -> Vec<u8> {
     let mut image = vec![0; (2048 + UNITS) * 512];
     let mut drive = Drive::over(&mut image);
     let key = key(profile);
-    drive.format(&format_input(profile, &key)).expect("a drive");
+    drive.format(&format_input(profile, &key)).result.expect("a drive");
     let (random, mut list) = buffers(&drive.header().expect("a header"), 1);
-    let _ = drive.add(1, &key, &slot_input(&passphrase("one"), &random), &mut list).expect("a passphrase");
+    let _ = drive.add(1, &key, &slot_input(&passphrase("one"), &random), &mut list).result.expect("a passphrase");
     image
 }
 
@@ -54,20 +54,23 @@ fn the_life_of_a_drive() {
         let (random, mut list) = buffers(&header, 7);
         let (filler, mut both) = (vec![7; header.area_length(1)], vec![0; header.change_list_length(7, 3)]);
 
-        let opened = drive.open(&passphrase("one")).expect("slot 1 opens");
+        let opened = drive.open(&passphrase("one")).result.expect("slot 1 opens");
         assert_eq!((opened.slot, opened.key.expose()), (1, key.expose()));
-        let _ = drive.add(7, &opened.key, &slot_input(&passphrase("two"), &random), &mut list).expect("slot 7 is free");
-        assert_eq!(drive.open(&passphrase("two")).expect("slot 7 opens").slot, 7);
+        let _ = drive
+            .add(7, &opened.key, &slot_input(&passphrase("two"), &random), &mut list)
+            .result
+            .expect("slot 7 is free");
+        assert_eq!(drive.open(&passphrase("two")).result.expect("slot 7 opens").slot, 7);
         let (two, three) = (passphrase("two"), passphrase("three"));
-        let _ = drive.change(7, &two, 3, &slot_input(&three, &random), &filler, &mut both).expect("a change");
-        assert_eq!(drive.open_slot(3, &passphrase("three")).expect("slot 3 opens").key.expose(), key.expose());
-        let _ = drive.revoke(1, &filler, &mut list).expect("slot 3 is in use too");
-        assert_eq!(drive.open(&passphrase("one")).err(), Some(Refusal::WrongKey));
+        let _ = drive.change(7, &two, 3, &slot_input(&three, &random), &filler, &mut both).result.expect("a change");
+        assert_eq!(drive.open_slot(3, &passphrase("three")).result.expect("slot 3 opens").key.expose(), key.expose());
+        let _ = drive.revoke(1, &filler, &mut list).result.expect("slot 3 is in use too");
+        assert_eq!(drive.open(&passphrase("one")).result.err(), Some(Refusal::WrongKey));
         assert!(drive.slots().expect("the slots").enabled().eq([3]));
 
         let (plain, mut back) = ([9; 1024], [0; 1024]);
-        drive.write(&key, PayloadUnit(1), 2, &plain).expect("two units");
-        drive.read(&key, PayloadUnit(1), 2, &mut back).expect("two units");
+        drive.write(&key, PayloadUnit(1), 2, &plain).result.expect("two units");
+        drive.read(&key, PayloadUnit(1), 2, &mut back).result.expect("two units");
         assert_eq!(plain, back);
         assert_eq!(drive.check(), Ok(()));
     }
@@ -81,7 +84,8 @@ fn the_slots_are_shown() {
         let mut drive = Drive::over(&mut image);
         let (random, mut list) = buffers(&drive.header().expect("a header"), 7);
         let two = passphrase("two");
-        let _ = drive.add(7, &key, &SlotInput::new(&two, &SALT, 1007, &random), &mut list).expect("slot 7 is free");
+        let _ =
+            drive.add(7, &key, &SlotInput::new(&two, &SALT, 1007, &random), &mut list).result.expect("slot 7 is free");
         let slots = drive.slots().expect("the slots");
         assert!(slots.enabled().eq([1, 7]));
         assert!((0..=255).filter(|&slot| slots.is_enabled(slot)).eq([1, 7]));
@@ -112,7 +116,7 @@ fn no_slot_is_free_where_all_are_enabled() {
         let (random, mut list) = buffers(&drive.header().expect("a header"), slot);
         assert_eq!(drive.slots().expect("the slots").free(), Some(slot));
         let (key, more) = (key(Profile::Key256), passphrase("more"));
-        let _ = drive.add(slot, &key, &slot_input(&more, &random), &mut list).expect("a free slot");
+        let _ = drive.add(slot, &key, &slot_input(&more, &random), &mut list).result.expect("a free slot");
     }
     let slots = Drive::over(&image[..]).slots().expect("the slots");
     assert!(slots.enabled().eq(1..=8));
@@ -179,7 +183,7 @@ fn the_hash_is_the_headers() {
         image[72..72 + other.len()].copy_from_slice(other.as_bytes());
         let drive = Drive::over(&image[..]);
         assert_eq!(drive.check(), Ok(()));
-        assert_eq!(drive.open(&passphrase("one")).err(), Some(Refusal::WrongKey));
+        assert_eq!(drive.open(&passphrase("one")).result.err(), Some(Refusal::WrongKey));
     }
 }
 
@@ -193,7 +197,7 @@ fn refusals() {
         let mut image = image(Profile::Key512);
         image[at..at + bytes.len()].copy_from_slice(bytes);
         let drive = Drive::over(&image[..]);
-        let refusal = drive.open(&one).err();
+        let refusal = drive.open(&one).result.err();
         assert_eq!(drive.check().err(), refusal);
         assert_eq!(drive.slots().err(), refusal);
         assert_eq!(drive.slot_details().err(), refusal);
@@ -215,21 +219,21 @@ fn refusals() {
     let mut drive = Drive::over(&mut image);
     let input = format_input(Profile::Key512, &key);
     let other = |key, count, uuid| FormatInput::new(Profile::Key512, key, &SALT, count, uuid).stripes(STRIPES);
-    assert_eq!(drive.format(&input.stripes(0)), Err(Refusal::BadStripes));
-    assert_eq!(drive.format(&other(&short, COUNT, UUID)), Err(Refusal::KeyLength));
-    assert_eq!(drive.format(&other(&key, 999, UUID)), Err(Refusal::LowCount));
-    assert_eq!(drive.format(&other(&key, COUNT, "none")), Err(Refusal::BadUuid));
+    assert_eq!(drive.format(&input.stripes(0)).result, Err(Refusal::BadStripes));
+    assert_eq!(drive.format(&other(&short, COUNT, UUID)).result, Err(Refusal::KeyLength));
+    assert_eq!(drive.format(&other(&key, 999, UUID)).result, Err(Refusal::LowCount));
+    assert_eq!(drive.format(&other(&key, COUNT, "none")).result, Err(Refusal::BadUuid));
     let all_stripes = FormatInput::new(Profile::Key512, &key, &SALT, COUNT, UUID);
-    assert_eq!((all_stripes.stripes, drive.format(&all_stripes)), (4000, Err(Refusal::ShortImage)));
-    assert_eq!(drive.open_slot(9, &one).err(), Some(Refusal::BadSlot));
-    assert_eq!(drive.open(&Secret::zeroed(513)).err(), Some(Refusal::BadPassphrase));
-    assert_eq!(drive.open_slot(2, &one).err(), Some(Refusal::WrongState));
-    assert_eq!(drive.add(2, &key, &slot_input(&one, &[]), &mut []), Err(Refusal::BadLength));
-    assert_eq!(drive.open(&passphrase("two")).err(), Some(Refusal::WrongKey));
-    assert_eq!(drive.revoke(1, &[], &mut []), Err(Refusal::LastSlot));
-    assert_eq!(drive.read(&key, PayloadUnit(u64::MAX), 1, &mut [0; 512]), Err(Refusal::BadRange));
-    assert_eq!(drive.write(&key, PayloadUnit(0), 1, &[0; 511]), Err(Refusal::BadBuffer));
-    assert_eq!(drive.write(&short, PayloadUnit(0), 0, &[]), Err(Refusal::KeyLength));
+    assert_eq!((all_stripes.stripes, drive.format(&all_stripes).result), (4000, Err(Refusal::ShortImage)));
+    assert_eq!(drive.open_slot(9, &one).result.err(), Some(Refusal::BadSlot));
+    assert_eq!(drive.open(&Secret::zeroed(513)).result.err(), Some(Refusal::BadPassphrase));
+    assert_eq!(drive.open_slot(2, &one).result.err(), Some(Refusal::WrongState));
+    assert_eq!(drive.add(2, &key, &slot_input(&one, &[]), &mut []).result, Err(Refusal::BadLength));
+    assert_eq!(drive.open(&passphrase("two")).result.err(), Some(Refusal::WrongKey));
+    assert_eq!(drive.revoke(1, &[], &mut []).result, Err(Refusal::LastSlot));
+    assert_eq!(drive.read(&key, PayloadUnit(u64::MAX), 1, &mut [0; 512]).result, Err(Refusal::BadRange));
+    assert_eq!(drive.write(&key, PayloadUnit(0), 1, &[0; 511]).result, Err(Refusal::BadBuffer));
+    assert_eq!(drive.write(&short, PayloadUnit(0), 0, &[]).result, Err(Refusal::KeyLength));
     assert!(image == before);
 }
 
@@ -252,19 +256,19 @@ fn each_refusal_has_its_number_and_a_sentence_of_its_own() {
 fn a_drive_stands_over_any_bytes() {
     let (mut image, key) = (image(Profile::Key256), key(Profile::Key256));
     let plain = [4; 512];
-    Drive::over(&mut image).write(&key, PayloadUnit(0), 1, &plain).expect("a unit");
+    Drive::over(&mut image).write(&key, PayloadUnit(0), 1, &plain).result.expect("a unit");
     let lent = Drive::over(&image[..]);
     assert_eq!(lent.check(), Ok(()));
     assert!(lent.slots().expect("the slots").enabled().eq([1]));
-    assert_eq!(lent.open(&passphrase("one")).expect("slot 1 opens").slot, 1);
-    let opened = lent.open_slot(1, &passphrase("one")).expect("slot 1 opens");
+    assert_eq!(lent.open(&passphrase("one")).result.expect("slot 1 opens").slot, 1);
+    let opened = lent.open_slot(1, &passphrase("one")).result.expect("slot 1 opens");
     let mut back = [0; 512];
-    lent.read(&opened.key, PayloadUnit(0), 1, &mut back).expect("a unit");
+    lent.read(&opened.key, PayloadUnit(0), 1, &mut back).result.expect("a unit");
     assert_eq!(back, plain);
     assert_eq!(lent.image(), image);
 
     let mut owned = Drive::over(image.clone());
-    owned.write(&key, PayloadUnit(0), 1, &[5; 512]).expect("a unit");
+    owned.write(&key, PayloadUnit(0), 1, &[5; 512]).result.expect("a unit");
     assert_ne!(owned.image(), image);
 }
 
@@ -273,7 +277,7 @@ fn nothing_that_is_printed_holds_a_key_an_image_or_stripes() {
     let mut image = image(Profile::Key256);
     let drive = Drive::over(&mut image);
     assert_eq!(format!("{drive:?}"), "Drive { length: 1050624 }");
-    let opened = drive.open(&passphrase("one")).expect("slot 1 opens");
+    let opened = drive.open(&passphrase("one")).result.expect("slot 1 opens");
     assert_eq!(format!("{opened:?}"), "Opened { slot: 1, key: Secret(..) }");
     let (key, one) = (key(Profile::Key256), passphrase("one"));
     let input = format_input(Profile::Key256, &key);

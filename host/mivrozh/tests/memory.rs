@@ -62,9 +62,13 @@ fn opened() -> Opened {
     let mut image = vec![0; 1 << 20];
     let (key, one, salt) = (Secret::from(vec![7; 64]), Secret::from(&b"one"[..]), [9; 32]);
     let mut drive = Drive::over(&mut image[..]);
-    drive.format(&FormatInput::new(Profile::Key512, &key, &salt, 1000, &"u".repeat(36)).stripes(1)).expect("a drive");
-    let _ = drive.add(1, &key, &SlotInput::new(&one, &salt, 1000, &[]), &mut [0; 3 * 516]).expect("a passphrase");
-    let opened = drive.open(&one).expect("slot 1 opens");
+    drive
+        .format(&FormatInput::new(Profile::Key512, &key, &salt, 1000, &"u".repeat(36)).stripes(1))
+        .result
+        .expect("a drive");
+    let _ =
+        drive.add(1, &key, &SlotInput::new(&one, &salt, 1000, &[]), &mut [0; 3 * 516]).result.expect("a passphrase");
+    let opened = drive.open(&one).result.expect("slot 1 opens");
     assert_eq!(opened.key.expose(), key.expose());
     opened
 }

@@ -23,10 +23,23 @@ const _: () = assert!(raw::MOST_STACK < 64 * 1024, "the stack of a call stays be
 
 type In = *const u8;
 type Out = *mut u8;
+type Values = *mut u64;
 
 // The engine's functions without the binding, so without its wiping; and threads with a given stack.
 extern "C" {
-    fn mivrozh_format(i: Out, il: usize, p: u8, n: u32, k: In, kl: usize, s: In, c: u32, u: In, ul: usize) -> u8;
+    fn mivrozh_format(
+        i: Out,
+        il: usize,
+        p: u8,
+        n: u32,
+        k: In,
+        kl: usize,
+        s: In,
+        c: u32,
+        u: In,
+        ul: usize,
+        v: Values,
+    ) -> u8;
     fn mivrozh_add(
         i: Out,
         il: usize,
@@ -41,9 +54,10 @@ extern "C" {
         rl: usize,
         l: Out,
         ll: usize,
+        v: Values,
     ) -> u8;
-    fn mivrozh_open_slot(i: In, il: usize, at: u8, p: In, pl: usize, opened: Out) -> u8;
-    fn mivrozh_open(i: In, il: usize, p: In, pl: usize, opened: Out) -> u8;
+    fn mivrozh_open_slot(i: In, il: usize, at: u8, p: In, pl: usize, opened: Out, v: Values) -> u8;
+    fn mivrozh_open(i: In, il: usize, p: In, pl: usize, opened: Out, v: Values) -> u8;
     #[rustfmt::skip]
     fn mivrozh_change(
         i: Out,
@@ -62,12 +76,13 @@ extern "C" {
         fl: usize,
         l: Out,
         ll: usize,
+        v: Values,
     ) -> u8;
-    fn mivrozh_revoke(i: Out, il: usize, at: u8, f: In, fl: usize, l: Out, ll: usize) -> u8;
+    fn mivrozh_revoke(i: Out, il: usize, at: u8, f: In, fl: usize, l: Out, ll: usize, v: Values) -> u8;
     fn mivrozh_slots(i: In, il: usize, enabled: Out) -> u8;
     fn mivrozh_slot_details(i: In, il: usize, enabled: Out, c: *mut u32, starts: *mut u32, n: *mut u32) -> u8;
-    fn mivrozh_read(i: In, il: usize, k: In, kl: usize, first: u64, units: u64, b: Out, bl: usize) -> u8;
-    fn mivrozh_write(i: Out, il: usize, k: In, kl: usize, first: u64, units: u64, b: In, bl: usize) -> u8;
+    fn mivrozh_read(i: In, il: usize, k: In, kl: usize, first: u64, units: u64, b: Out, bl: usize, v: Values) -> u8;
+    fn mivrozh_write(i: Out, il: usize, k: In, kl: usize, first: u64, units: u64, b: In, bl: usize, v: Values) -> u8;
 
     fn pthread_attr_init(attributes: *mut u64) -> i32;
     fn pthread_attr_setstack(attributes: *mut u64, stack: Out, size: usize) -> i32;
@@ -130,6 +145,7 @@ struct Scene {
     enabled: Box<[u8; 8]>,
     // Counts, starts and stripes.
     details: Box<[[u32; 8]; 3]>,
+    values: Box<u64>,
 }
 
 impl Scene {
@@ -149,11 +165,12 @@ impl Scene {
             opened: Box::new([0; 66]),
             enabled: Box::new([0; 8]),
             details: Box::new([[0; 8]; 3]),
+            values: Box::new(0),
         };
         assert_eq!(scene.bound(Call::Format), 0);
-        let Scene { image, key, first, last, salt, random, list, .. } = &mut scene;
-        assert_eq!(raw::add(image, 1, key, first, salt, COUNT, random, list), 0);
-        assert_eq!(raw::add(image, 8, key, last, salt, COUNT, random, list), 0);
+        let Scene { image, key, first, last, salt, random, list, values, .. } = &mut scene;
+        assert_eq!(raw::add(image, 1, key, first, salt, COUNT, random, list, values), 0);
+        assert_eq!(raw::add(image, 8, key, last, salt, COUNT, random, list, values), 0);
         scene
     }
 
@@ -161,27 +178,27 @@ impl Scene {
     // checksum is the same derivation, of a master key: so it is read from a drive whose key is that passphrase.
     fn derived(&self) -> Vec<u8> {
         let mut image = vec![0; 1 << 20];
-        assert_eq!(raw::format(&mut image, self.profile, 1, &self.last, &self.salt, COUNT, UUID), 0);
+        assert_eq!(raw::format(&mut image, self.profile, 1, &self.last, &self.salt, COUNT, UUID, &mut 0), 0);
         image[112..132].to_vec()
     }
 
     // The call through the binding.
     fn bound(&mut self, call: Call) -> u8 {
         let Scene { profile, image, key, first, last, salt, random, filler, list, lists, .. } = self;
-        let Scene { buffer, opened, enabled, details, .. } = self;
+        let Scene { buffer, opened, enabled, details, values, .. } = self;
         let [counts, starts, stripes] = &mut **details;
         let units = UNITS as u64;
         match call {
-            Call::Format => raw::format(image, *profile, STRIPES, key, salt, COUNT, UUID),
-            Call::Add => raw::add(image, 2, key, last, salt, COUNT, random, list),
-            Call::OpenSlot => raw::open_slot(image, 8, last, opened),
-            Call::Open => raw::open(image, last, opened),
-            Call::Change => raw::change(image, 8, last, 3, first, salt, COUNT, random, filler, lists),
-            Call::Revoke => raw::revoke(image, 1, filler, list),
+            Call::Format => raw::format(image, *profile, STRIPES, key, salt, COUNT, UUID, values),
+            Call::Add => raw::add(image, 2, key, last, salt, COUNT, random, list, values),
+            Call::OpenSlot => raw::open_slot(image, 8, last, opened, values),
+            Call::Open => raw::open(image, last, opened, values),
+            Call::Change => raw::change(image, 8, last, 3, first, salt, COUNT, random, filler, lists, values),
+            Call::Revoke => raw::revoke(image, 1, filler, list, values),
             Call::Slots => raw::slots(image, enabled),
             Call::SlotDetails => raw::slot_details(image, enabled, counts, starts, stripes),
-            Call::Read => raw::read(image, key, 0, units, buffer),
-            Call::Write => raw::write(image, key, 0, units, buffer),
+            Call::Read => raw::read(image, key, 0, units, buffer, values),
+            Call::Write => raw::write(image, key, 0, units, buffer, values),
         }
     }
 
@@ -189,26 +206,26 @@ impl Scene {
     #[rustfmt::skip]
     fn bare(&mut self, call: Call) -> u8 {
         let Scene { profile, image, key, first, last, salt, random, filler, list, lists, .. } = self;
-        let Scene { buffer, opened, enabled, details, .. } = self;
+        let Scene { buffer, opened, enabled, details, values, .. } = self;
         let (e, d) = (enabled.as_mut_ptr(), details.each_mut().map(|array| array.as_mut_ptr()));
         let (i, il, units) = (image.as_mut_ptr(), image.len(), UNITS as u64);
         let (k, kl, s, r, rl) = (key.as_ptr(), key.len(), salt.as_ptr(), random.as_ptr(), random.len());
         let (p, pl, f, fl) = (last.as_ptr(), last.len(), filler.as_ptr(), filler.len());
-        let (q, ql) = (first.as_ptr(), first.len());
+        let (q, ql, v): (_, _, Values) = (first.as_ptr(), first.len(), &mut **values);
         let ([l, both], [ll, bothl]) = ([list.as_mut_ptr(), lists.as_mut_ptr()], [list.len(), lists.len()]);
         // SAFETY: all pointers are into live, separate buffers of the scene, with their lengths.
         unsafe {
             match call {
-                Call::Format => mivrozh_format(i, il, *profile, STRIPES, k, kl, s, COUNT, UUID.as_ptr(), UUID.len()),
-                Call::Add => mivrozh_add(i, il, 2, k, kl, p, pl, s, COUNT, r, rl, l, ll),
-                Call::OpenSlot => mivrozh_open_slot(i, il, 8, p, pl, opened.as_mut_ptr()),
-                Call::Open => mivrozh_open(i, il, p, pl, opened.as_mut_ptr()),
-                Call::Change => mivrozh_change(i, il, 8, p, pl, 3, q, ql, s, COUNT, r, rl, f, fl, both, bothl),
-                Call::Revoke => mivrozh_revoke(i, il, 1, f, fl, l, ll),
+                Call::Format => mivrozh_format(i, il, *profile, STRIPES, k, kl, s, COUNT, UUID.as_ptr(), UUID.len(), v),
+                Call::Add => mivrozh_add(i, il, 2, k, kl, p, pl, s, COUNT, r, rl, l, ll, v),
+                Call::OpenSlot => mivrozh_open_slot(i, il, 8, p, pl, opened.as_mut_ptr(), v),
+                Call::Open => mivrozh_open(i, il, p, pl, opened.as_mut_ptr(), v),
+                Call::Change => mivrozh_change(i, il, 8, p, pl, 3, q, ql, s, COUNT, r, rl, f, fl, both, bothl, v),
+                Call::Revoke => mivrozh_revoke(i, il, 1, f, fl, l, ll, v),
                 Call::Slots => mivrozh_slots(i, il, e),
                 Call::SlotDetails => mivrozh_slot_details(i, il, e, d[0], d[1], d[2]),
-                Call::Read => mivrozh_read(i, il, k, kl, 0, units, buffer.as_mut_ptr(), buffer.len()),
-                Call::Write => mivrozh_write(i, il, k, kl, 0, units, buffer.as_ptr(), buffer.len()),
+                Call::Read => mivrozh_read(i, il, k, kl, 0, units, buffer.as_mut_ptr(), buffer.len(), v),
+                Call::Write => mivrozh_write(i, il, k, kl, 0, units, buffer.as_ptr(), buffer.len(), v),
             }
         }
     }
@@ -343,7 +360,7 @@ fn an_opened_drive_leaves_no_key_on_the_stack() {
         let (key, passphrase) = (scene.key.clone(), Secret::from(&scene.last[..]));
         let mut found = None;
         let after = stack_after(&mut || {
-            found = Drive::over(&mut scene.image).open(&passphrase).ok();
+            found = Drive::over(&mut scene.image).open(&passphrase).result.ok();
             0
         });
         assert_eq!(found.expect("slot 8 opens").key.expose(), key);

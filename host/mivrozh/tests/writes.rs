@@ -23,7 +23,7 @@ fn header(image: &[u8]) -> Header {
 fn drive(profile: Profile, stripes: u32, slot: u8) -> Vec<u8> {
     let (mut image, key) = (vec![0; 2049 * 512], key(profile));
     let input = FormatInput::new(profile, &key, &SALT, COUNT, UUID).stripes(stripes);
-    Drive::over(&mut image).format(&input).expect("a drive");
+    Drive::over(&mut image).format(&input).result.expect("a drive");
     image[8 * 512..].iter_mut().zip(0..).for_each(|(byte, at)| *byte = (at % 251 + 1) as u8);
     let list = &mut vec![0; header(&image).list_length(slot)];
     let _ = added(&mut image, slot, "one", list).expect("a passphrase");
@@ -34,18 +34,18 @@ fn drive(profile: Profile, stripes: u32, slot: u8) -> Vec<u8> {
 fn added<'l>(image: &mut [u8], slot: u8, new: &str, list: &'l mut [u8]) -> Result<SectorWrites<'l>, Refusal> {
     let (header, new) = (header(image), passphrase(new));
     let (key, random) = (Secret::from((0..header.key_bytes as u8).collect::<Vec<u8>>()), header.random_length(slot));
-    Drive::over(image).add(slot, &key, &SlotInput::new(&new, &SALT, COUNT, &vec![5; random]), list)
+    Drive::over(image).add(slot, &key, &SlotInput::new(&new, &SALT, COUNT, &vec![5; random]), list).result
 }
 
 fn changed<'l>(image: &mut [u8], from: u8, to: u8, list: &'l mut [u8]) -> Result<SectorWrites<'l>, Refusal> {
     let (header, old, new) = (header(image), passphrase("one"), passphrase("two"));
     let (random, filler) = (vec![6; header.random_length(to)], vec![7; header.area_length(from)]);
-    Drive::over(image).change(from, &old, to, &SlotInput::new(&new, &SALT, COUNT, &random), &filler, list)
+    Drive::over(image).change(from, &old, to, &SlotInput::new(&new, &SALT, COUNT, &random), &filler, list).result
 }
 
 fn revoked<'l>(image: &mut [u8], slot: u8, list: &'l mut [u8]) -> Result<SectorWrites<'l>, Refusal> {
     let filler = vec![7; header(image).area_length(slot)];
-    Drive::over(image).revoke(slot, &filler, list)
+    Drive::over(image).revoke(slot, &filler, list).result
 }
 
 fn sectors(writes: SectorWrites) -> Vec<u32> {
@@ -80,7 +80,10 @@ fn lengths() {
     }
     let mut image = vec![0; 4096 * 512];
     let key = key(Profile::Key256);
-    Drive::over(&mut image).format(&FormatInput::new(Profile::Key256, &key, &SALT, COUNT, UUID)).expect("a drive");
+    Drive::over(&mut image)
+        .format(&FormatInput::new(Profile::Key256, &key, &SALT, COUNT, UUID))
+        .result
+        .expect("a drive");
     assert_eq!((header(&image).list_length(8), header(&image).change_list_length(8, 1)), (130_032, 260_064));
     // Slots of another maker may differ in their stripes.
     image[208 + 48 + 44..][..4].copy_from_slice(&17u32.to_be_bytes());
@@ -137,7 +140,7 @@ fn a_cut_list_is_ended_by_the_same_call() {
         for done in 0..=8 {
             let mut cut = carried_out(&before, writes, done);
             let drive = Drive::over(&cut[..]);
-            let opens = |slot, text| drive.open_slot(slot, &passphrase(text)).is_ok();
+            let opens = |slot, text| drive.open_slot(slot, &passphrase(text)).result.is_ok();
             assert!(opens(4, "four") && (opens(from, "one") || opens(to, "two")), "{from} to {to}, {done} writes");
             let enabled = |slot| drive.slots().expect("the slots").is_enabled(slot);
             let (old, new) = (enabled(from), enabled(to));
@@ -162,11 +165,11 @@ fn a_cut_addition_or_revocation_is_ended_by_the_same_call() {
         let revoking = revoked(&mut emptied, slot, &mut list).expect("slot 1 is in use too");
         for done in 0..=4 {
             let mut cut = carried_out(&without, adding, done);
-            assert!(Drive::over(&cut[..]).open_slot(1, &passphrase("one")).is_ok());
+            assert!(Drive::over(&cut[..]).open_slot(1, &passphrase("one")).result.is_ok());
             let again = added(&mut cut, slot, "two", &mut [0; 4 * ENTRY]).err();
             assert!(cut == with && [None, Some(Refusal::WrongState)].contains(&again), "{done} writes: {again:?}");
             let mut cut = carried_out(&with, revoking, done);
-            assert!(Drive::over(&cut[..]).open_slot(1, &passphrase("one")).is_ok());
+            assert!(Drive::over(&cut[..]).open_slot(1, &passphrase("one")).result.is_ok());
             let again = revoked(&mut cut, slot, &mut [0; 4 * ENTRY]).err();
             assert!(cut == emptied && [None, Some(Refusal::WrongState)].contains(&again), "{done} writes: {again:?}");
         }
@@ -219,18 +222,22 @@ fn the_buffer_is_judged_after_the_lengths_and_before_the_key() {
     let slow = |count| SlotInput::new(&two, &SALT, count, &random);
     type Tried<'a> = &'a dyn Fn(&mut Drive<&mut [u8]>, &mut [u8]) -> Option<Refusal>;
     let refused: [(Tried, usize, Refusal); 12] = [
-        (&|drive, list| drive.add(9, &key, &input(&random), list).err(), 4, Refusal::BadSlot),
-        (&|drive, list| drive.add(1, &key, &input(&random), list).err(), 4, Refusal::WrongState),
-        (&|drive, list| drive.add(2, &key, &slow(999), list).err(), 3, Refusal::LowCount),
-        (&|drive, list| drive.add(2, &wrong, &input(&random[1..]), list).err(), 3, Refusal::BadLength),
-        (&|drive, list| drive.add(2, &wrong, &input(&random), list).err(), 3, Refusal::BadBuffer),
-        (&|drive, list| drive.add(2, &wrong, &input(&random), list).err(), 4, Refusal::WrongKey),
-        (&|drive, list| drive.change(1, &two, 2, &input(&random), &filler[1..], list).err(), 7, Refusal::BadLength),
-        (&|drive, list| drive.change(1, &two, 2, &input(&random), &filler, list).err(), 7, Refusal::BadBuffer),
-        (&|drive, list| drive.change(1, &two, 2, &input(&random), &filler, list).err(), 8, Refusal::WrongKey),
-        (&|drive, list| drive.change(1, &one, 1, &input(&random), &filler, list).err(), 8, Refusal::WrongState),
-        (&|drive, list| drive.revoke(2, &filler, list).err(), 4, Refusal::WrongState),
-        (&|drive, list| drive.revoke(1, &filler, list).err(), 3, Refusal::LastSlot),
+        (&|drive, list| drive.add(9, &key, &input(&random), list).result.err(), 4, Refusal::BadSlot),
+        (&|drive, list| drive.add(1, &key, &input(&random), list).result.err(), 4, Refusal::WrongState),
+        (&|drive, list| drive.add(2, &key, &slow(999), list).result.err(), 3, Refusal::LowCount),
+        (&|drive, list| drive.add(2, &wrong, &input(&random[1..]), list).result.err(), 3, Refusal::BadLength),
+        (&|drive, list| drive.add(2, &wrong, &input(&random), list).result.err(), 3, Refusal::BadBuffer),
+        (&|drive, list| drive.add(2, &wrong, &input(&random), list).result.err(), 4, Refusal::WrongKey),
+        (
+            &|drive, list| drive.change(1, &two, 2, &input(&random), &filler[1..], list).result.err(),
+            7,
+            Refusal::BadLength,
+        ),
+        (&|drive, list| drive.change(1, &two, 2, &input(&random), &filler, list).result.err(), 7, Refusal::BadBuffer),
+        (&|drive, list| drive.change(1, &two, 2, &input(&random), &filler, list).result.err(), 8, Refusal::WrongKey),
+        (&|drive, list| drive.change(1, &one, 1, &input(&random), &filler, list).result.err(), 8, Refusal::WrongState),
+        (&|drive, list| drive.revoke(2, &filler, list).result.err(), 4, Refusal::WrongState),
+        (&|drive, list| drive.revoke(1, &filler, list).result.err(), 3, Refusal::LastSlot),
     ];
     for (at, (call, entries, refusal)) in refused.into_iter().enumerate() {
         let (mut tried, mut list) = (image.clone(), vec![0xEE; entries * ENTRY]);

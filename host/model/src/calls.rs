@@ -103,6 +103,8 @@ impl Call {
 pub struct Outcome {
     /// 0, or the number of the refusal.
     pub number: u8,
+    /// How many HMAC values the call made, accepted or refused: 02, Wish 6.
+    pub values: u64,
     /// Of an opening: slot, key length, the key and zeros to 64 bytes; all zero when refused, and for other calls.
     pub opened: [u8; 66],
     /// The lent buffer afterwards: of an add, change or revoke its list, of a read what was read.
@@ -110,10 +112,12 @@ pub struct Outcome {
     pub image: Vec<u8>,
 }
 
-/// The numbers of the checks that fail, in the order of the checks: up to the first, or all.
+/// The numbers of the checks that fail, in the order of the checks: up to the first, or all. And the slot with the candidate
+/// that passed check 17, where that tries a passphrase: an accepted call goes on with it and derives nothing a second time.
 struct Findings {
     all: bool,
     failing: Vec<u8>,
+    opened: Option<(u8, Vec<u8>)>,
 }
 
 impl Findings {
@@ -121,6 +125,16 @@ impl Findings {
         if (self.all || self.failing.is_empty()) && fails() {
             self.failing.push(number);
         }
+    }
+
+    /// Check 17 of a passphrase, which fails where no slot and candidate are found.
+    fn check_opening(&mut self, find: impl FnOnce() -> Option<(u8, Vec<u8>)>) {
+        let mut found = None;
+        self.check(17, || {
+            found = find();
+            found.is_none()
+        });
+        self.opened = found;
     }
 }
 
@@ -167,21 +181,21 @@ impl Model {
 
     /// The first number that refuses the call, or 0.
     pub fn number(&mut self, image: &[u8], call: &Call) -> u8 {
-        self.checks(image, call, false).first().copied().unwrap_or(0)
+        self.checks(image, call, false).failing.first().copied().unwrap_or(0)
     }
 
     /// Every number whose check fails, in order. A check that speaks of a slot, profile or hash that is not there does
     /// not fail.
     pub fn failing(&mut self, image: &[u8], call: &Call) -> Vec<u8> {
-        self.checks(image, call, true)
+        self.checks(image, call, true).failing
     }
 
-    fn checks(&mut self, image: &[u8], call: &Call, all: bool) -> Vec<u8> {
-        let mut f = Findings { all, failing: Vec::new() };
+    fn checks(&mut self, image: &[u8], call: &Call, all: bool) -> Findings {
+        let mut f = Findings { all, failing: Vec::new(), opened: None };
         let h = Header::read(image);
         if let Call::Format { .. } = call {
             format_checks(&mut f, image.len(), call, self.alignment);
-            return f.failing;
+            return f;
         }
         for (number, refused) in h.refusals(image.len()) {
             f.check(number, || refused);
@@ -196,38 +210,41 @@ impl Model {
                 f.check(13, || record.is_none());
                 f.check(14, || bad_passphrase(passphrase));
                 f.check(15, || record.is_some_and(|s| !s.enabled()));
-                f.check(17, || hashed && record.is_some_and(|s| d.candidate(image, &h, s, passphrase).is_none()));
+                if let Some(s) = record.filter(|_| hashed) {
+                    f.check_opening(|| d.candidate(image, &h, s, passphrase).map(|key| (*slot, key)));
+                }
             }
             Call::Open { passphrase } => {
                 f.check(14, || bad_passphrase(passphrase));
-                f.check(17, || hashed && search(d, image, &h, passphrase).is_none());
+                if hashed {
+                    f.check_opening(|| search(d, image, &h, passphrase));
+                }
             }
             Call::Change { .. } => change_checks(&mut f, d, image, &h, call),
             Call::Revoke { .. } => revoke_checks(&mut f, &h, call),
-            Call::Read { key, first, units, buffer } | Call::Write { key, first, units, buffer } => {
-                let payload = payload_units(&h, image.len()) as u128;
-                f.check(9, || key.len() != h.key_bytes as usize);
-                f.check(19, || *first as u128 + *units as u128 > payload);
-                f.check(20, || buffer.len() as u128 != SECTOR as u128 * *units as u128);
-                f.check(17, || hashed && !d.has_checksum(&h, key));
-            }
+            Call::Read { .. } | Call::Write { .. } => transfer_checks(&mut f, d, &h, image.len(), call),
         }
-        f.failing
+        f
     }
 
-    /// The call's outcome. A refused call alters nothing.
+    /// The call's outcome. A refused call alters nothing. What checks and work derive is what the call made.
     pub fn step(&mut self, image: &[u8], call: &Call) -> Outcome {
-        let number = self.number(image, call);
-        let mut out = Outcome { number, opened: [0; 66], buffer: call.lent().to_vec(), image: image.to_vec() };
+        self.derivations.take_values();
+        let found = self.checks(image, call, false);
+        let number = found.failing.first().copied().unwrap_or(0);
+        let (buffer, image) = (call.lent().to_vec(), image.to_vec());
+        let mut out = Outcome { number, values: 0, opened: [0; 66], buffer, image };
         if number == 0 {
-            self.accept(&mut out, call);
+            self.accept(&mut out, call, found.opened);
         }
+        out.values = self.derivations.take_values();
         out
     }
 
     /// An accepted call: `out` holds the image before, and then what the call gives.
-    fn accept(&mut self, out: &mut Outcome, call: &Call) {
+    fn accept(&mut self, out: &mut Outcome, call: &Call, opened: Option<(u8, Vec<u8>)>) {
         let h = Header::read(&out.image);
+        let passed = || opened.expect("check 17 passed");
         let d = &mut self.derivations;
         match call {
             Call::Format { .. } => format(d, &mut out.image, call, self.alignment),
@@ -235,18 +252,12 @@ impl Model {
                 d.fill(&mut out.image, *slot, key, passphrase, salt, *count, random);
                 out.buffer = list_of(&out.image, *slot);
             }
-            Call::OpenSlot { slot, passphrase } => {
-                let record = &h.slots[*slot as usize - 1];
-                let key = d.candidate(&out.image, &h, record, passphrase).expect("check 17 passed");
-                out.opened = answer(*slot, &key);
-            }
-            Call::Open { passphrase } => {
-                let (slot, key) = search(d, &out.image, &h, passphrase).expect("check 17 passed");
+            Call::OpenSlot { .. } | Call::Open { .. } => {
+                let (slot, key) = passed();
                 out.opened = answer(slot, &key);
             }
-            Call::Change { from, old, to, new, salt, count, random, filler, .. } => {
-                let record = &h.slots[*from as usize - 1];
-                let key = d.candidate(&out.image, &h, record, old).expect("check 17 passed");
+            Call::Change { from, to, new, salt, count, random, filler, .. } => {
+                let (_, key) = passed();
                 d.fill(&mut out.image, *to, &key, new, salt, *count, random);
                 out.buffer = list_of(&out.image, *to);
                 empty(&mut out.image, *from, filler);
@@ -317,7 +328,9 @@ fn change_checks(f: &mut Findings, d: &mut Derivations, image: &[u8], h: &Header
             || first.is_some_and(|s| not_stripes(filler, s.stripes, h.key_bytes))
     });
     f.check(20, || first.zip(second).is_some_and(|(s, t)| not_list(list, &[s, t], h.key_bytes)));
-    f.check(17, || h.hash().is_some() && first.is_some_and(|s| d.candidate(image, h, s, old).is_none()));
+    if let Some(s) = first.filter(|_| h.hash().is_some()) {
+        f.check_opening(|| d.candidate(image, h, s, old).map(|key| (*from, key)));
+    }
 }
 
 fn revoke_checks(f: &mut Findings, h: &Header, call: &Call) {
@@ -329,6 +342,17 @@ fn revoke_checks(f: &mut Findings, h: &Header, call: &Call) {
     f.check(18, || record.is_some() && !another());
     f.check(16, || record.is_some_and(|s| not_stripes(filler, s.stripes, h.key_bytes)));
     f.check(20, || record.is_some_and(|s| not_list(list, &[s], h.key_bytes)));
+}
+
+fn transfer_checks(f: &mut Findings, d: &mut Derivations, h: &Header, image_len: usize, call: &Call) {
+    let (Call::Read { key, first, units, buffer } | Call::Write { key, first, units, buffer }) = call else {
+        unreachable!("a read or a write")
+    };
+    let payload = payload_units(h, image_len) as u128;
+    f.check(9, || key.len() != h.key_bytes as usize);
+    f.check(19, || *first as u128 + *units as u128 > payload);
+    f.check(20, || buffer.len() as u128 != SECTOR as u128 * *units as u128);
+    f.check(17, || h.hash().is_some() && !d.has_checksum(h, key));
 }
 
 /// Zeroes everything before the payload, then writes the header.

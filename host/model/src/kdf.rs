@@ -1,4 +1,4 @@
-//! HMAC (RFC 2104) and PBKDF2 (RFC 8018, section 5.2), over either hash.
+//! HMAC (RFC 2104) and PBKDF2 (RFC 8018, section 5.2), over either hash. PBKDF2 counts the HMAC values that it makes: 02, Wish 6.
 
 use crate::hash::{Hash, BLOCK};
 
@@ -27,8 +27,21 @@ impl HmacKey {
     }
 }
 
+/// An HMAC key that counts the values made with it.
+struct Counting {
+    key: HmacKey,
+    made: u64,
+}
+
+impl Counting {
+    fn of(&mut self, text: &[u8]) -> Vec<u8> {
+        self.made += 1;
+        self.key.of(text)
+    }
+}
+
 /// F of RFC 8018: the exclusive or of `count` values, each the HMAC of the one before.
-fn block(key: &HmacKey, salt: &[u8], count: u32, number: u32) -> Vec<u8> {
+fn block(key: &mut Counting, salt: &[u8], count: u32, number: u32) -> Vec<u8> {
     let mut value = key.of(&[salt, &number.to_be_bytes()].concat());
     let mut sum = value.clone();
     for _ in 1..count {
@@ -40,16 +53,17 @@ fn block(key: &HmacKey, salt: &[u8], count: u32, number: u32) -> Vec<u8> {
     sum
 }
 
-/// PBKDF2 with blocks of a digest's length, numbered from 1, the last cropped. `count` is at least 1.
-pub fn pbkdf2(hash: Hash, password: &[u8], salt: &[u8], count: u32, length: usize) -> Vec<u8> {
+/// PBKDF2 with blocks of a digest's length, numbered from 1, the last cropped; and how many HMAC values it made. `count` is at
+/// least 1.
+pub fn pbkdf2(hash: Hash, password: &[u8], salt: &[u8], count: u32, length: usize) -> (Vec<u8>, u64) {
     assert!(count >= 1, "PBKDF2 is not defined for count 0");
-    let key = HmacKey::new(hash, password);
+    let mut key = Counting { key: HmacKey::new(hash, password), made: 0 };
     let mut derived = Vec::new();
     for number in 1..=length.div_ceil(hash.size()) as u32 {
-        derived.extend_from_slice(&block(&key, salt, count, number));
+        derived.extend_from_slice(&block(&mut key, salt, count, number));
     }
     derived.truncate(length);
-    derived
+    (derived, key.made)
 }
 
 #[cfg(test)]
@@ -98,7 +112,21 @@ mod tests {
 
     fn derives(hash: Hash, password: &[u8], salt: &[u8], count: u32, digits: &str) {
         let expected = unhex(digits);
-        assert_eq!(pbkdf2(hash, password, salt, count, expected.len()), expected);
+        assert_eq!(pbkdf2(hash, password, salt, count, expected.len()).0, expected);
+    }
+
+    /// 02, Wish 6: c x m / D values, the quotient rounded up before the product.
+    #[test]
+    fn figures_of_values() {
+        let makes = |hash, count, length| pbkdf2(hash, b"key", b"salt", count, length).1;
+        assert_eq!(makes(Hash::Sha1, 1000, 20), 1000);
+        assert_eq!(makes(Hash::Sha1, 1000, 32), 2000);
+        assert_eq!(makes(Hash::Sha1, 1000, 64), 4000);
+        assert_eq!(makes(Hash::Sha256, 1000, 20), 1000);
+        assert_eq!(makes(Hash::Sha256, 1000, 32), 1000);
+        assert_eq!(makes(Hash::Sha256, 1000, 64), 2000);
+        assert_eq!(makes(Hash::Sha1, 1001, 32), 2002, "not 1,602");
+        assert_eq!(makes(Hash::Sha1, 1, 1), 1);
     }
 
     #[test]
@@ -131,9 +159,9 @@ mod tests {
     #[test]
     fn the_last_block_is_cropped() {
         for hash in Hash::ALL {
-            let whole = pbkdf2(hash, b"key", b"salt", 3, 64);
+            let (whole, _) = pbkdf2(hash, b"key", b"salt", 3, 64);
             for length in [1, 20, 32, 40, 63] {
-                assert_eq!(pbkdf2(hash, b"key", b"salt", 3, length), whole[..length]);
+                assert_eq!(pbkdf2(hash, b"key", b"salt", 3, length).0, whole[..length]);
             }
         }
     }

@@ -5,6 +5,7 @@
 
 pub mod aes;
 pub mod calls;
+pub mod costs;
 pub mod hash;
 pub mod header;
 pub mod kdf;

@@ -10,10 +10,13 @@ use std::collections::HashMap;
 /// What a derivation starts from: hash, password, salt, count and length.
 type Start = (Hash, Vec<u8>, [u8; 32], u32, usize);
 
-/// PBKDF2 with its results remembered, since one passphrase or key is tried again and again.
+/// PBKDF2 with its results remembered, since one passphrase or key is tried again and again; and with each the number of HMAC
+/// values that it made, which counts every time.
 #[derive(Default)]
 pub struct Derivations {
-    known: HashMap<Start, Vec<u8>>,
+    known: HashMap<Start, (Vec<u8>, u64)>,
+    /// The HMAC values of all derivations asked for so far.
+    values: u64,
 }
 
 impl Derivations {
@@ -24,7 +27,15 @@ impl Derivations {
             self.known.clear();
         }
         let derive = || pbkdf2(hash, password, salt, count, length);
-        self.known.entry((hash, password.to_vec(), *salt, count, length)).or_insert_with(derive).clone()
+        let start = (hash, password.to_vec(), *salt, count, length);
+        let (derived, made) = self.known.entry(start).or_insert_with(derive);
+        self.values += *made;
+        derived.clone()
+    }
+
+    /// The HMAC values of the derivations that were asked for since this was called before.
+    pub fn take_values(&mut self) -> u64 {
+        std::mem::take(&mut self.values)
     }
 
     /// The checksum of a key: 20 bytes, whatever the hash.

@@ -8,17 +8,17 @@ const STACK: usize = raw::WIPED_STACK + 16 * 1024;
 
 fn calls(profile: u8, image: &mut [u8], numbers: &mut [u8; 10]) {
     let (key, salt, stripes, filler) = ([5; 64], [6; 32], [7; 64], [8; 128]);
-    let (mut opened, mut buffer) = ([0; 66], [0; 512]);
+    let (mut opened, mut buffer, mut values) = ([0; 66], [0; 512], 0);
     let (mut list, mut lists) = (vec![0; 3 * ENTRY], vec![0; 6 * ENTRY]);
-    numbers[0] = raw::format(image, profile, 2, &key, &salt, 1000, &[b'u'; 36]);
-    numbers[1] = raw::add(image, 1, &key, b"old", &salt, 1000, &stripes, &mut list);
-    numbers[2] = raw::change(image, 1, b"old", 2, b"new", &salt, 1000, &stripes, &filler, &mut lists);
-    numbers[3] = raw::open(image, b"new", &mut opened);
-    numbers[4] = raw::open_slot(image, 2, b"new", &mut opened);
-    numbers[5] = raw::write(image, &key, 0, 1, &[9; 512]);
-    numbers[6] = raw::read(image, &key, 0, 1, &mut buffer);
-    raw::add(image, 3, &key, b"third", &salt, 1000, &stripes, &mut list);
-    numbers[7] = raw::revoke(image, 3, &filler, &mut list);
+    numbers[0] = raw::format(image, profile, 2, &key, &salt, 1000, &[b'u'; 36], &mut values);
+    numbers[1] = raw::add(image, 1, &key, b"old", &salt, 1000, &stripes, &mut list, &mut values);
+    numbers[2] = raw::change(image, 1, b"old", 2, b"new", &salt, 1000, &stripes, &filler, &mut lists, &mut values);
+    numbers[3] = raw::open(image, b"new", &mut opened, &mut values);
+    numbers[4] = raw::open_slot(image, 2, b"new", &mut opened, &mut values);
+    numbers[5] = raw::write(image, &key, 0, 1, &[9; 512], &mut values);
+    numbers[6] = raw::read(image, &key, 0, 1, &mut buffer, &mut values);
+    raw::add(image, 3, &key, b"third", &salt, 1000, &stripes, &mut list, &mut values);
+    numbers[7] = raw::revoke(image, 3, &filler, &mut list, &mut values);
     let (mut enabled, [mut counts, mut starts, mut stripes]) = ([0; 8], [[0; 8]; 3]);
     numbers[8] = raw::slots(image, &mut enabled);
     numbers[9] = raw::slot_details(image, &mut enabled, &mut counts, &mut starts, &mut stripes);

@@ -1,8 +1,8 @@
 -- `adding::add` meets its contract: each place knows which checks have passed, and each return is the rules' step.
-use mathlib.Core.Path.{_≡_, sym, ap, _∙_}
+use mathlib.Core.Path.{_≡_, sym, ap, ap₂, _∙_}
 use mathlib.Core.Logic.{_≢_}
 use mathlib.Core.List.{List}
-use Prim.Native.Nat.{ℕ}
+use Prim.Native.Nat.{ℕ, _+_}
 use native.Mathlib.Omega.{arith}
 use lib.ListN.{length}
 use borrow.Author.Tests.{eqb-true}
@@ -14,6 +14,7 @@ use Rattle.rules.specs.Calls.{Call, add, keyOk, earlyChecks, lateChecks, done, 
 use Rattle.rules.specs.Sectors.{encoded, slotList}
 use Rattle.rules.specs.Step.{writes}
 use Rattle.rules.specs.Lists.{listOf}
+use Rattle.rules.specs.Costs.{testCost, workCost}
 use Rattle.rules.proofs.ChecksLaws.{Pass, accepted, refused-by, first-pass}
 use Rattle.rules.proofs.StepLaws.{numbered-early, step-header, step-early, step-late, step-accepted, lists-refused, lists-accepted}
 use Rattle.profiles.specs.Suites.{built}
@@ -66,11 +67,14 @@ judged c = c .before .before
 abbrev start₃ : tie.After-key-matches → tie.Start
 start₃ c = start₂ (judged c .before)
 
-late-zero : (c : tie.Else3) → first (late (start₃ (c .before))) ≡ 0
+abbrev tested : tie.Else3 → tie.After-key-matches
+tested c = c .before .before
+
+late-zero : (c : tie.Else3) → first (late (start₃ (tested c))) ≡ 0
 unfolding lateChecks
 late-zero c =
-    let t = c .before .key-matches in
-    first-pass (late (start₃ (c .before))) (holds (t .ensures) (c .if3 .left), tt)
+    let t = tested c .key-matches in
+    first-pass (late (start₃ (tested c))) (holds (t .ensures .matches-is) (c .if3 .left), tt)
 
 -- ---- needs
 
@@ -80,7 +84,7 @@ returns c =
     let m = s .args .image .now in
     let h = c .before .before .header-check in
     let z : number (h .result) ≢ 0 = λ q. c .if1 .taken (c .before .number-of .ensures ∙ q) in
-    lists-refused built m (called s) (number (h .result)) z (s .args .list .now) (step-header built m (called s) (number (h .result)) z (h .ensures))
+    lists-refused built m (called s) (number (h .result)) 0 z (s .args .list .now) (step-header built m (called s) (number (h .result)) z (h .ensures))
 
 add-check-requires : tie.Need-add-check-requires
 add-check-requires c κs = header-ok (c .before .before)
@@ -91,7 +95,7 @@ returns-2 c =
     let m = s .args .image .now in
     let r = c .before .before .add-check in
     let z : number (r .result) ≢ 0 = λ q. c .if2 .taken (c .before .number-of2 .ensures ∙ q) in
-    lists-refused built m (called s) (number (r .result)) z (s .args .list .now)
+    lists-refused built m (called s) (number (r .result)) 0 z (s .args .list .now)
     (step-early built m (called s) (header-ok (checked (c .before))) (number (r .result)) z (r .ensures (s .args .salt .now)))
 
 key-matches-requires : tie.Need-key-matches-requires
@@ -103,15 +107,16 @@ key-matches-requires c κs =
     (ok, omega (arith, eqb-true (length (s .args .key .now)) (facts s .profile .keyBytes) (early-passed e .1 .1 .0), sound (s .args .image .now) ok .key-most))
 
 returns-3 : tie.Need-returns-3
-unfolding lateChecks
+unfolding lateChecks testCost
 returns-3 c =
-    let e = judged (c .before) in
-    let s = start₃ (c .before) in
+    let k = c .before .before in
+    let e = judged k in
+    let s = start₃ k in
     let m = s .args .image .now in
-    let t = c .before .key-matches in
-    lists-refused built m (called s) 17 (λ q. omega arith) (s .args .list .now)
+    let t = k .key-matches in
+    lists-refused built m (called s) 17 (t .result .values) (λ q. omega arith) (s .args .list .now)
     (step-late built m (called s) (header-ok (checked (e .before))) (early-zero e) 17 (λ q. omega arith)
-    (refused-by (late s) 0 tt (fails (t .ensures) (c .if3 .taken))))
+    (refused-by (late s) 0 tt (fails (t .ensures .matches-is) (c .if3 .taken))) (t .result .values) (t .ensures .values-are))
 
 -- ---- where the slot is enabled
 
@@ -122,7 +127,7 @@ abbrev matched : tie.After-area-of → tie.Else3
 matched c = c .before .before
 
 abbrev start₄ : tie.After-enable-slot → tie.Start
-start₄ c = start₃ (matched (placed c) .before)
+start₄ c = start₃ (tested (matched (placed c)))
 
 -- the image is as long as it was
 kept : (c : tie.After-enable-slot) → length (c .enable-slot .last .0) ≡ length (start₄ c .args .image .now)
@@ -130,12 +135,12 @@ kept c = search needs
 
 area-of-requires : tie.Need-area-of-requires
 unfolding earlyChecks
-area-of-requires c κs = let e = judged (c .before .before) in (header-ok (checked (e .before)), early-passed e .0)
+area-of-requires c κs = let e = judged (tested (c .before)) in (header-ok (checked (e .before)), early-passed e .0)
 
 enable-slot-requires : tie.Need-enable-slot-requires
 unfolding earlyChecks
 enable-slot-requires c κs =
-    let e = judged (matched (c .before) .before) in
+    let e = judged (tested (matched (c .before))) in
     let p = early-passed e in
     (header-ok (checked (e .before)), p .0, p .1 .1 .0, p .1 .1 .1 .0, p .1 .1 .1 .1 .0, p .1 .1 .1 .1 .1 .0)
 
@@ -143,7 +148,7 @@ put-list-requires : tie.Need-put-list-requires
 unfolding earlyChecks
 put-list-requires c κs =
     let n = c .before .before .before .before in
-    let e = judged (matched (placed n) .before) in
+    let e = judged (tested (matched (placed n))) in
     let s = start₄ n in
     let p = early-passed e in
     let ok = header-ok (checked (e .before)) in
@@ -152,13 +157,20 @@ put-list-requires c κs =
       list-room (s .args .image .now) ok (s .args .slot) (p .0) (a .result) (a .ensures .0) (n .enable-slot .last .0) (kept n) (s .args .list .now) (p .1 .1 .1 .1 .1 .1 .0),
     )
 
+add-values : tie.Need-add-t34
+add-values c =
+    let n = c .before .before .before .before .before .before .before .before in
+    let t = tested (matched (placed n)) .key-matches in
+    omega (arith, t .ensures .values-few, n .enable-slot .ensures .3)
+
 returns-4 : tie.Need-returns-4
-unfolding answer done writes earlyChecks listOf
+unfolding answer done writes earlyChecks listOf testCost workCost
 returns-4 c =
-    let w = c .before .before in
+    let w = c .before .before .before in
     let n = w .before .before .before .before .before in
     let k = matched (placed n) in
-    let e = judged (k .before) in
+    let t = tested k .key-matches in
+    let e = judged (tested k) in
     let s = start₄ n in
     let m = s .args .image .now in
     let p = early-passed e in
@@ -166,7 +178,8 @@ returns-4 c =
     let a = placed n .area-of in
     let z = sym (e .before .number-of2 .ensures) ∙ e .if2 .left in
     let i = n .enable-slot .ensures .0 in
-    lists-accepted built m (called s) _ (step-accepted built m (called s) ok (early-zero e) (late-zero k))
+    lists-accepted built m (called s) _ _
+    (step-accepted built m (called s) ok (early-zero e) (late-zero k) (t .result .values + n .enable-slot .result) (ap₂ _+_ (t .ensures .values-are) (n .enable-slot .ensures .2)))
     (number (e .before .before .add-check .result)) _ (s .args .list .now) _ z z i
     (list-filled m ok (s .args .slot) (p .0) (a .result) (a .ensures .0) (n .enable-slot .last .0) (kept n) (s .args .list .now) _ (p .1 .1 .1 .1 .1 .1 .0) (w .put-list .ensures)
     ∙ ap (λ (x : List ℕ). encoded (slotList (facts s) (s .args .slot) x)) i)
@@ -191,6 +204,7 @@ add-spec =
     area-of-requires
     enable-slot-requires
     put-list-requires
+    add-values
     (λ same-length-6. search needs)
     (λ same-length-7. search needs)
     returns-4)

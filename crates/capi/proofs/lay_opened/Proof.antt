@@ -7,6 +7,12 @@ use Rattle.capi.proofs.lay_opened.Statement.{statement}
 use Rattle.capi.proofs.lay_opened.Tie as tie
 use Rattle.capi.proofs.OpenedLaws.{laid}
 
+key-length : (s : tie.Start) → length (s .args .o .key) ≡ 64
+key-length s = search needs
+
+room : (c : tie.After-copy-into2) → length (c .before .before .before .before .before .before .before .args .opened .now) ≡ 66
+room c = search needs
+
 copy-into-requires-2 : tie.Need-copy-into-requires-2
 copy-into-requires-2 c κs =
     let k : length (c .before .before .before .before .before .before .args .o .key) ≡ 64 = search needs in
@@ -15,12 +21,12 @@ copy-into-requires-2 c κs =
 
 returns : tie.Need-returns
 returns c =
-    let s = c .before .before .before .before .before .before .before .before in
-    let k : length (s .args .o .key) ≡ 64 = search needs in
-    let m : length (s .args .opened .now) ≡ 66 = search needs in
+    let w = c .before .before in
+    let s = w .before .before .before .before .before .before .before in
     let o = s .args .o in
-    let first = c .before .before .before .before .copy-into .ensures in
-    (c .number-of .ensures, laid (s .args .opened .now) _ _ (o .key) (o .slot) (o .«key_length») m k first (c .before .copy-into2 .ensures))
+    let first = w .before .before .before .copy-into .ensures in
+    let v = c .lay-values .ensures in
+    (v .0, laid (s .args .opened .now) _ _ (o .key) (o .slot) (o .«key_length») (room w) (key-length s) first (w .copy-into2 .ensures), v .1)
 
 pub lay-opened-spec : {M : Type 1} → statement M
 lay-opened-spec =
@@ -30,5 +36,5 @@ lay-opened-spec =
     (λ copy-into-requires κs. search needs)
     (λ slice-aggregate-copy-into-2. search needs)
     copy-into-requires-2
-    (λ number-of-requires κs. search needs)
+    (λ lay-values-requires κs. search needs)
     returns)

@@ -1,9 +1,9 @@
 -- `changing::change` meets its contract: each place knows which checks have passed, and each return is the rules' step.
-use mathlib.Core.Path.{_≡_, refl, sym, ap, _∙_}
+use mathlib.Core.Path.{_≡_, refl, sym, ap, ap₂, _∙_}
 use mathlib.Core.Logic.{_≢_}
 use mathlib.Core.List.{List, _++_}
 use mathlib.Core.Bool.{true}
-use Prim.Native.Nat.{ℕ, _-_}
+use Prim.Native.Nat.{ℕ, _+_, _-_}
 use native.Mathlib.Omega.{arith}
 use lib.ListN.{length, take}
 use lib.Seq.{take-at}
@@ -16,6 +16,7 @@ use Rattle.rules.specs.Calls.{Call, change, keyOk, earlyChecks, lateChecks, don
 use Rattle.rules.specs.Sectors.{encoded, slotList}
 use Rattle.rules.specs.Step.{written, writes, enableWrites, disableWrites}
 use Rattle.rules.specs.Lists.{enabledImage, disabledImage, listOf}
+use Rattle.rules.specs.Costs.{trialCost, testCost, workCost}
 use Rattle.rules.proofs.ChecksLaws.{refused-by, first-pass}
 use Rattle.rules.proofs.StepLaws.{step-header, step-early, step-late, step-accepted, lists-refused, lists-accepted}
 use Rattle.profiles.specs.Suites.{built}
@@ -23,6 +24,7 @@ use Rattle.header.specs.Refusals.{number}
 use Rattle.header.specs.Records.{factsIn, HeaderOk}
 use Rattle.header.proofs.SoundLaws.{sound}
 use Rattle.slots.proofs.AreaLaws.{opens-on}
+use Rattle.slots.proofs.CostLaws.{tried-cost}
 use Rattle.changing.proofs.ChangeLaws.{Given, given}
 use Rattle.changing.proofs.change.Statement.{statement}
 use Rattle.changing.proofs.change.Tie as tie
@@ -88,6 +90,12 @@ match-is c =
     let s = start₃ c in
     opens-on (facts s) (s .args .from) (s .args .old .now) _ _ (fit (judged c) .live) refl refl ∙ sym (c .try-slot .ensures .opens-is)
 
+-- the trial's cost
+trial-is : (c : tie.After-try-slot) → c .try-slot .result .values ≡ trialCost (facts (start₃ c)) (start₃ c .args .from)
+trial-is c =
+    let s = start₃ c in
+    tried-cost (facts s) (s .args .from) (c .try-slot .result .values) (fit (judged c) .live) (c .try-slot .ensures .values-are)
+
 -- ---- where it opens
 
 abbrev tried : tie.Else3 → tie.After-try-slot
@@ -122,7 +130,7 @@ returns c =
     let m = s .args .image .now in
     let h = c .before .before .header-check in
     let z : number (h .result) ≢ 0 = λ q. c .if1 .taken (c .before .number-of .ensures ∙ q) in
-    lists-refused built m (called s) (number (h .result)) z (s .args .list .now) (step-header built m (called s) (number (h .result)) z (h .ensures))
+    lists-refused built m (called s) (number (h .result)) 0 z (s .args .list .now) (step-header built m (called s) (number (h .result)) z (h .ensures))
 
 change-check-requires : tie.Need-change-check-requires
 change-check-requires c κs = header-ok (c .before .before)
@@ -133,21 +141,21 @@ returns-2 c =
     let m = s .args .image .now in
     let r = c .before .before .change-check in
     let z : number (r .result) ≢ 0 = λ q. c .if2 .taken (c .before .number-of2 .ensures ∙ q) in
-    lists-refused built m (called s) (number (r .result)) z (s .args .list .now)
+    lists-refused built m (called s) (number (r .result)) 0 z (s .args .list .now)
     (step-early built m (called s) (header-ok (checked (c .before))) (number (r .result)) z (r .ensures (s .args .salt .now)))
 
 try-slot-requires : tie.Need-try-slot-requires
 try-slot-requires c κs = let e = c .before in (header-ok (checked (e .before)), fit e .from-ok, fit e .old-ok)
 
 returns-3 : tie.Need-returns-3
-unfolding lateChecks
+unfolding lateChecks testCost
 returns-3 c =
     let t = c .before .before in
     let s = start₃ t in
     let m = s .args .image .now in
-    lists-refused built m (called s) 17 (λ q. omega arith) (s .args .list .now)
+    lists-refused built m (called s) 17 (t .try-slot .result .values) (λ q. omega arith) (s .args .list .now)
     (step-late built m (called s) (ok₃ t) (early-zero (judged t)) 17 (λ q. omega arith)
-    (refused-by (late s) 0 tt (match-is t ∙ not-true (t .try-slot .result .opens) (c .if3 .taken))))
+    (refused-by (late s) 0 tt (match-is t ∙ not-true (t .try-slot .result .opens) (c .if3 .taken))) (t .try-slot .result .values) (trial-is t))
 
 key-bytes-requires : tie.Need-key-bytes-requires
 key-bytes-requires c κs = let t = tried (c .before) in sound (start₃ t .args .image .now) (ok₃ t) .named
@@ -169,10 +177,16 @@ move-key-requires c κs =
     let g = fit (judged t) in
     (ok₃ t, g .from-ok, g .to-ok, eq-eqb _ _ (ap length (front k) ∙ candidate-length k), g .new-ok, g .count-ok, g .random-ok, g .filler-ok, g .list-ok)
 
+add-values : tie.Need-add-t37
+add-values c =
+    let v = c .before .before .before .before .before in
+    let t = trial (v .before .before .before .before .before) .try-slot in
+    omega (arith, t .ensures .values-few, v .move-key .ensures .2)
+
 returns-4 : tie.Need-returns-4
-unfolding answer done writes listOf
+unfolding answer done writes listOf testCost workCost
 returns-4 c =
-    let v = c .before .before .before .before in
+    let v = c .before .before .before .before .before in
     let k = v .before .before .before .before .before in
     let t = trial k in
     let e = judged t in
@@ -181,11 +195,13 @@ returns-4 c =
     let m = a .image .now in
     let f = facts s in
     let z = sym (e .before .number-of2 .ensures) ∙ e .if2 .left in
-    lists-accepted built m (called s) _ (step-accepted built m (called s) (ok₃ t) (early-zero e) (late-zero (k .before .before)))
+    lists-accepted built m (called s) _ _
+    (step-accepted built m (called s) (ok₃ t) (early-zero e) (late-zero (k .before .before)) (t .try-slot .result .values + v .move-key .result)
+    (ap₂ _+_ (trial-is t) (v .move-key .ensures .1)))
     (number (e .before .before .change-check .result)) _ (a .list .now) _ z z
-    (v .move-key .ensures .image-is
+    (v .move-key .ensures .0 .image-is
     ∙ ap (λ (y : List ℕ). written (enableWrites f (a .to) y (input s) ++ disableWrites f (a .from) (a .filler .now)) m) (front k))
-    (v .move-key .ensures .list-is
+    (v .move-key .ensures .0 .list-is
     ∙ ap (λ (y : List ℕ). encoded (slotList f (a .to) (enabledImage f (a .to) y (input s) m)
     ++ slotList f (a .from) (disabledImage f (a .from) (a .filler .now) (enabledImage f (a .to) y (input s) m)))) (front k))
 
@@ -211,6 +227,7 @@ change-spec =
     array-share-prefix-key
     slice-aggregate-move-key
     move-key-requires
+    add-values
     (λ same-length-6. search needs)
     (λ same-length-7. search needs)
     returns-4)

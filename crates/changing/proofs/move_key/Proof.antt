@@ -103,14 +103,17 @@ returns c =
     let k = known (measured p) in
     let to-area = k .before .before .area-of in
     let e = p .enable-slot in
-    let on = moved-on m (q .0) (a .from) (a .to) (q .1) (q .2) (a .key .now) (input s) (e .ensures .1) (a .filler .now) (e .last .0) (e .ensures .0) _ (d .disable-slot .ensures) in
-    record {
-      image-is = moved m (q .0) (a .from) (a .to) (q .1) (q .2) (a .key .now) (input s) (e .ensures .1) (a .filler .now) (e .last .0) (e .ensures .0) _ (d .disable-slot .ensures);
-      list-is = both-filled m (q .0) (a .from) (a .to) (q .1) (q .2) (to-area .result) (k .area-of2 .result) (to-area .ensures .0) (k .area-of2 .ensures .0)
-          (e .last .0) (d .disable-slot .last .0) (kept₁ p) (kept₂ d) (a .list .now) (q .8)
-          (measured p .list-bytes .result) _ _ (measured p .list-bytes .ensures .0) (w .put-list .ensures) (v .put-list2 .ensures)
-          ∙ ap₂ (λ (x y : List ℕ). encoded (slotList (factsIn m) (a .to) x ++ slotList (factsIn m) (a .from) y)) (e .ensures .0) on;
-    }
+    let on = moved-on m (q .0) (a .from) (a .to) (q .1) (q .2) (a .key .now) (input s) (e .ensures .1) (a .filler .now) (e .last .0) (e .ensures .0) _ (d .disable-slot .ensures) in (
+      record {
+        image-is = moved m (q .0) (a .from) (a .to) (q .1) (q .2) (a .key .now) (input s) (e .ensures .1) (a .filler .now) (e .last .0) (e .ensures .0) _ (d .disable-slot .ensures);
+        list-is = both-filled m (q .0) (a .from) (a .to) (q .1) (q .2) (to-area .result) (k .area-of2 .result) (to-area .ensures .0) (k .area-of2 .ensures .0)
+            (e .last .0) (d .disable-slot .last .0) (kept₁ p) (kept₂ d) (a .list .now) (q .8)
+            (measured p .list-bytes .result) _ _ (measured p .list-bytes .ensures .0) (w .put-list .ensures) (v .put-list2 .ensures)
+            ∙ ap₂ (λ (x y : List ℕ). encoded (slotList (factsIn m) (a .to) x ++ slotList (factsIn m) (a .from) y)) (e .ensures .0) on;
+      },
+      e .ensures .2,
+      e .ensures .3,
+    )
 
 pub move-key-spec : {M : Type 1} → statement M
 move-key-spec =

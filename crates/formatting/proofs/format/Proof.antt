@@ -28,7 +28,7 @@ accepted c = sym (c .before .number-of .ensures) ∙ c .if1 .left
 returns : tie.Need-returns
 returns c =
     let p = c .before .before in
-    settled (input (start p)) _ _ false _ (number-is p) (ne-eqb _ _ (λ e. c .if1 .taken (c .before .number-of .ensures ∙ e))) refl
+    settled (input (start p)) _ _ false _ 0 (number-is p) (ne-eqb _ _ (λ e. c .if1 .taken (c .before .number-of .ensures ∙ e))) refl refl
 
 write-drive-requires : tie.Need-write-drive-requires
 write-drive-requires c κs = sym (number-is (c .before .before .before)) ∙ accepted (c .before)
@@ -38,7 +38,7 @@ returns-2 c =
     let w = c .before .before in
     let e = w .before .before in
     let p = e .before .before in
-    settled (input (start p)) _ _ true _ (number-is p) (eq-eqb _ _ (accepted e)) (w .write-drive .ensures)
+    settled (input (start p)) _ _ true _ (w .write-drive .result) (number-is p) (eq-eqb _ _ (accepted e)) (w .write-drive .ensures .0) (w .write-drive .ensures .1)
 
 pub format-spec : {M : Type 1} → statement M
 format-spec =

@@ -10,7 +10,7 @@ use Rattle.rules.proofs.RowLaws.{lawful-row}
 use Rattle.profiles.specs.Rows.{rows}
 use Rattle.profiles.proofs.Lawful.{rows-ok}
 use Rattle.formatting.proofs.FieldsLaws.{names, nameWidths}
-use Rattle.formatting.proofs.FormatLaws.{header-is}
+use Rattle.formatting.proofs.FormatLaws.{header-is, suite-made}
 use Rattle.formatting.proofs.header_of.Statement.{statement}
 use Rattle.formatting.proofs.header_of.Tie as tie
 
@@ -58,9 +58,12 @@ returns c =
     let m = named n in
     let d = m .before .before .before in
     let p = found m in
-    header-is (input (start p)) (p .profile-at .result) (p .profile-at .ensures) (name-widths p) (d .before .pbkdf2-arg .given .0) (start p .pre .4)
-    (hashed m .hash-of .result) (hashed m .hash-of .ensures) (d .pbkdf2 .last .0) _ _ _ (d .pbkdf2 .kept .0) (d .pbkdf2 .ensures)
-    (m .put-names .ensures) (n .put-numbers .ensures) (s .put-slots .ensures)
+    let g = hashed m .hash-of in (
+      header-is (input (start p)) (p .profile-at .result) (p .profile-at .ensures) (name-widths p) (d .before .pbkdf2-arg .given .0) (start p .pre .4)
+          (g .result) (g .ensures) (d .pbkdf2 .last .0) _ _ _ (d .pbkdf2 .kept .0) (d .pbkdf2 .ensures .0)
+          (m .put-names .ensures) (n .put-numbers .ensures) (s .put-slots .ensures),
+      suite-made (start p .args .profile) (start p .args .count) (d .pbkdf2 .result) (g .result) (g .ensures) (d .pbkdf2 .ensures .1),
+    )
 
 pub header-of-spec : {M : Type 1} → statement M
 header-of-spec =

@@ -1,5 +1,5 @@
 -- `formatting::write_drive` meets its contract.
-use mathlib.Core.Path.{sym}
+use mathlib.Core.Path.{_≡_, sym}
 use Prim.Native.Nat.{_*_, _≤_}
 use native.Mathlib.Omega.{arith}
 use lib.ListN.{length}
@@ -47,17 +47,22 @@ header-of-requires c κs =
     (f .profile-known, f .stripes-most, f .key-most, f .count-least, f .uuid-is)
 
 copy-into-requires : tie.Need-copy-into-requires
-copy-into-requires c κs = omega (arith, fits (start (laid (c .before .before .before .before .before))) .size)
+copy-into-requires c κs =
+    let h = c .before .before .before in
+    let l : length (h .header-of .result .bytes) ≡ 592 = search needs in
+    omega (arith, l, fits (start (laid (h .before .before .before))) .size)
 
 returns : tie.Need-returns
 returns c =
     let w = c .before .before in
-    let h = w .before .before .before in
+    let h = w .before .before .before .before in
     let e = h .before .before .before in
     let p = laid e in
-    let z = start p in
-    drive-written (input z) (z .args .image .now) (fits z) (p .payload-start .result .0) (e .clear .last .0) _ _
-    (p .payload-start .ensures .0) (e .clear .ensures) (h .header-of .ensures) (w .copy-into .ensures)
+    let z = start p in (
+      drive-written (input z) (z .args .image .now) (fits z) (p .payload-start .result .0) (e .clear .last .0) _ _
+          (p .payload-start .ensures .0) (e .clear .ensures) (h .header-of .ensures .0) (w .copy-into .ensures),
+      h .header-of .ensures .1,
+    )
 
 pub write-drive-spec : {M : Type 1} → statement M
 write-drive-spec =

@@ -1,12 +1,14 @@
 -- `opening::open` meets its contract: header, then the passphrase, then the search.
 use mathlib.Core.Path.{_≡_, refl, sym, ap, _∙_}
 use mathlib.Core.Bool.{true}
+use Prim.Native.Nat.{_+_}
 use native.Mathlib.Omega.{arith}
 use borrow.Author.Needs.{needs}
 use Rattle.octets.proofs.BoolLaws.{holds, fails}
 use Rattle.rules.specs.Checks.{first}
 use Rattle.rules.specs.Facts.{Facts}
 use Rattle.rules.specs.Calls.{Call, openAny, passphraseOk, earlyChecks, lateChecks, answer, opened}
+use Rattle.rules.specs.Costs.{searchCost, testCost, workCost}
 use Rattle.rules.proofs.ChecksLaws.{refused-by, first-pass}
 use Rattle.rules.proofs.StepLaws.{step-header, step-early, step-late, step-accepted, opens-as}
 use Rattle.profiles.specs.Suites.{built}
@@ -68,7 +70,7 @@ find-slot-requires : tie.Need-find-slot-requires
 find-slot-requires c κs = (header-ok (at-2 c), passphrase-ok c)
 
 returns-3 : tie.Need-returns-3
-unfolding lateChecks
+unfolding lateChecks testCost
 returns-3 c =
     let t = c .before .before .before in
     let e = t .before in
@@ -76,7 +78,8 @@ returns-3 c =
     let m = s .args .image .now in
     let none = sym (t .find-slot .ensures .any-is) ∙ ap isAny (c .before .enum-told .given .1) in
     opens-refused m (call s) (no-key-any (s .args .passphrase .now)) (c .refused3 .ensures)
-    (step-late built m (call s) (header-ok (at-2 e)) (early-ok e) 17 (λ q. omega arith) (refused-by (lateChecks (facts s) (call s)) 0 tt none))
+    (step-late built m (call s) (header-ok (at-2 e)) (early-ok e) 17 (λ q. omega arith) (refused-by (lateChecks (facts s) (call s)) 0 tt none)
+    (t .find-slot .result .values) (t .find-slot .ensures .values-are))
 
 key-bytes-requires : tie.Need-key-bytes-requires
 key-bytes-requires c κs =
@@ -84,7 +87,7 @@ key-bytes-requires c κs =
     sound (at-1 p .args .image .now) (header-ok p) .named
 
 returns-4 : tie.Need-returns-4
-unfolding lateChecks answer opened
+unfolding lateChecks answer opened testCost workCost
 returns-4 c =
     let found = c .before .before .before .found .given .1 in
     let t = c .before .before .before .before .before in
@@ -93,7 +96,8 @@ returns-4 c =
     let m = s .args .image .now in
     let r = t .find-slot .ensures in
     let late = first-pass (lateChecks (facts s) (call s)) (sym (r .any-is) ∙ ap isAny found, tt) in
-    opens-as built m (call s) _ (step-accepted built m (call s) (header-ok (at-2 e)) (early-ok e) late) _ _ _ _
+    let v : t .find-slot .result .values ≡ searchCost (facts s) (s .args .passphrase .now) 1 8 + 0 = omega (arith, r .values-are) in
+    opens-as built m (call s) _ _ (step-accepted built m (call s) (header-ok (at-2 e)) (early-ok e) late (t .find-slot .result .values) v) _ _ _ _
     refl (sym (ap slotFound found) ∙ r .slot-is) (c .key-bytes .ensures .0) (r .key-is (ap isAny found))
 
 pub open-spec : {M : Type 1} → statement M

@@ -6,7 +6,7 @@ use Rattle.opening.proofs.refused.Tie as tie
 
 returns : tie.Need-returns
 unfolding zeros
-returns c = record { refusal-is = refl; slot-is = refl; length-is = refl; key-is = refl }
+returns c = record { refusal-is = refl; slot-is = refl; length-is = refl; key-is = refl; values-are = refl }
 
 pub refused-spec : {M : Type 1} → statement M
 refused-spec = tie.close (tie.spec returns)

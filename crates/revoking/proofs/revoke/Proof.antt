@@ -1,5 +1,5 @@
 -- `revoking::revoke` meets its contract.
-use mathlib.Core.Path.{_≡_, sym, ap, _∙_}
+use mathlib.Core.Path.{_≡_, refl, sym, ap, _∙_}
 use mathlib.Core.Logic.{_≢_}
 use mathlib.Core.List.{List, []}
 use Prim.Native.Nat.{ℕ}
@@ -10,6 +10,7 @@ use Rattle.rules.specs.Calls.{Call, revoke, earlyChecks, lateChecks, done, answ
 use Rattle.rules.specs.Sectors.{encoded, slotList}
 use Rattle.rules.specs.Step.{writes}
 use Rattle.rules.specs.Lists.{listOf}
+use Rattle.rules.specs.Costs.{testCost, workCost}
 use Rattle.rules.proofs.ChecksLaws.{Pass, accepted, all-pass}
 use Rattle.rules.proofs.StepLaws.{numbered-early, step-header, step-early, step-accepted, lists-refused, lists-accepted}
 use Rattle.profiles.specs.Suites.{built}
@@ -50,7 +51,7 @@ returns c =
     let m = s .args .image .now in
     let h = c .before .before .header-check in
     let z : number (h .result) ≢ 0 = λ q. c .if1 .taken (c .before .number-of .ensures ∙ q) in
-    lists-refused built m (called s) (number (h .result)) z (s .args .list .now) (step-header built m (called s) (number (h .result)) z (h .ensures))
+    lists-refused built m (called s) (number (h .result)) 0 z (s .args .list .now) (step-header built m (called s) (number (h .result)) z (h .ensures))
 
 revoke-check-requires : tie.Need-revoke-check-requires
 revoke-check-requires c κs = sound-header (c .before .before)
@@ -62,7 +63,7 @@ returns-2 c =
     let m = s .args .image .now in
     let k = c .before .before .revoke-check in
     let z : number (k .result) ≢ 0 = λ q. c .if2 .taken (c .before .number-of2 .ensures ∙ q) in
-    lists-refused built m (called s) (number (k .result)) z (s .args .list .now)
+    lists-refused built m (called s) (number (k .result)) 0 z (s .args .list .now)
     (step-early built m (called s) (sound-header h) (number (k .result)) z (k .ensures))
 
 area-of-requires : tie.Need-area-of-requires
@@ -107,7 +108,7 @@ put-list-requires c κs =
     )
 
 returns-3 : tie.Need-returns-3
-unfolding answer done writes earlyChecks lateChecks listOf
+unfolding answer done writes earlyChecks lateChecks listOf testCost workCost
 returns-3 c =
     let w = c .before .before in
     let n = w .before .before .before .before .before in
@@ -120,7 +121,7 @@ returns-3 c =
     let k = p .before .before .revoke-check in
     let z = k .ensures ∙ early p in
     let i = n .disable-slot .ensures in
-    lists-accepted built m (called s) _ (step-accepted built m (called s) ok (early p) (sym (all-pass [] tt))) (number (k .result)) _ (s .args .list .now) _ z z i
+    lists-accepted built m (called s) _ 0 (step-accepted built m (called s) ok (early p) (sym (all-pass [] tt)) 0 refl) (number (k .result)) _ (s .args .list .now) _ z z i
     (list-filled m ok (s .args .slot) (q .0) (a .result) (a .ensures .0) (n .disable-slot .last .0) (kept n) (s .args .list .now) _ (q .1 .1 .1 .1 .0) (w .put-list .ensures)
     ∙ ap (λ (x : List ℕ). encoded (slotList (factsIn m) (s .args .slot) x)) i)
 

@@ -1,7 +1,7 @@
 -- `slots::enable_slot` meets its contract: the area, lent and given back, is a splice of the image, and the head a second one.
-use mathlib.Core.Path.{_≡_, sym, ap, ap₂, _∙_}
+use mathlib.Core.Path.{_≡_, refl, sym, ap, ap₂, _∙_}
 use mathlib.Core.List.{List, _++_}
-use Prim.Native.Nat.{ℕ, _+_, _-_, _*_, _≤_}
+use Prim.Native.Nat.{ℕ, _+_, _-_, _*_, _^_, _≤_, _<_}
 use native.Mathlib.Omega.{arith}
 use lib.ListN.{length, take, drop}
 use borrow.Author.Tests.{eqb-true, leb-true}
@@ -15,6 +15,7 @@ use Rattle.rules.proofs.ArgumentLaws.{passphrase-in}
 use Rattle.header.specs.Records.{factsIn}
 use Rattle.header.proofs.SoundLaws.{Sound, sound}
 use Rattle.slots.proofs.AreaLaws.{area-small, area-fits, some-stripes, slot-written, material-is}
+use Rattle.slots.proofs.CostLaws.{few-values, derivation-counted}
 use Rattle.slots.proofs.enable_slot.Statement.{statement}
 use Rattle.slots.proofs.enable_slot.Tie as tie
 
@@ -130,9 +131,16 @@ returns c =
     let a = s .args in
     let r = p .slot-of in
     let e = material-is (a .image .now) (hashed p .hash-in .result) (hashed p .hash-in .ensures) (a .slot) (r .result .stripes) (length (a .key .now)) (a .count)
-    (a .key .now) (a .passphrase .now) (a .salt .now) (a .random .now) (f .fill .last .0) (r .ensures .stripes-is) (key-length s) (f .fill .ensures) in
+    (a .key .now) (a .passphrase .now) (a .salt .now) (a .random .now) (f .fill .last .0) (r .ensures .stripes-is) (key-length s) (f .fill .ensures .0) in
     let w = slot-written (a .image .now) (a .slot) (r .result .start .0) (r .ensures .start-is) (f .fill .last .0) _ _ _ (lent-back f) (h .put-head .ensures .0) in
-    (w ∙ ap (λ (x : List ℕ). written (slotWrites (factsIn (a .image .now)) (a .slot) x (recordHead enabled (a .count) (a .salt .now))) (a .image .now)) e, h .put-head .ensures .1)
+    let g = hashed p .hash-in in
+    let v = f .fill .ensures .1 in
+    let n : a .count < 2 ^ 32 = search needs in (
+      w ∙ ap (λ (x : List ℕ). written (slotWrites (factsIn (a .image .now)) (a .slot) x (recordHead enabled (a .count) (a .salt .now))) (a .image .now)) e,
+      h .put-head .ensures .1,
+      derivation-counted (a .image .now) (g .result) (g .ensures) (a .count) (length (a .key .now)) (a .count) (f .fill .result) refl (key-length s) v,
+      omega (arith, v, few-values (g .result) (a .count) (length (a .key .now)) n (omega (arith, key-length s, good s .key-most))),
+    )
 
 pub enable-slot-spec : {M : Type 1} → statement M
 enable-slot-spec =

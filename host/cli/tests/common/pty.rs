@@ -20,6 +20,7 @@ extern "C" {
     fn tcsetattr(file: i32, when: i32, settings: *const Settings) -> i32;
     fn open(path: *const c_char, flags: i32, ...) -> i32;
     fn kill(process: i32, number: i32) -> i32;
+    fn ioctl(file: i32, request: u64, ...) -> i32;
 }
 
 const READ_WRITE: i32 = 2;
@@ -83,6 +84,14 @@ impl Terminal {
         change(&mut settings);
         // SAFETY: the settings have the C library's layout.
         assert_eq!(unsafe { tcsetattr(self.own.as_raw_fd(), 0, &settings) }, 0);
+    }
+
+    /// Says how many columns the terminal has: it does not say so by itself.
+    pub fn set_columns(&self, columns: u16) {
+        const TIOCSWINSZ: u64 = 0x5414;
+        let size = [24, columns, 0, 0];
+        // SAFETY: rows, columns and both in pixels are `struct winsize` of the C library.
+        assert_eq!(unsafe { ioctl(self.own.as_raw_fd(), TIOCSWINSZ, &size) }, 0);
     }
 }
 

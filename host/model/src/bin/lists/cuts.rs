@@ -157,8 +157,9 @@ impl Cut<'_> {
                     before.number
                 ));
             }
-            if both.model.step(image, open).opened != before.opened {
-                return Err(format!("slot {slot}, which was not touched, has another key"));
+            let now = both.model.step(image, open);
+            if (now.opened, now.values) != (before.opened, before.values) {
+                return Err(format!("slot {slot}, which was not touched, has another key or another cost"));
             }
             both.cuts.openings += 1;
         }

@@ -1,7 +1,7 @@
 //! Holds the library against the independent model: every set of checks that can fail together, every way of damage,
 //! and seeded random lists of calls, in which lists of sector writes are cut, on long images some of them (`cuts` says how);
-//! after each call, both screens of the image. Ends with a failure at the first difference, or if a refusal number was not
-//! reached.
+//! after each call, both screens of the image. Of every call the number of HMAC values is compared too. Ends with a failure
+//! at the first difference, or if a refusal number was not reached.
 //!
 //!     lists [--calls N] [--seed S] [--profiles P]
 //!
@@ -100,6 +100,21 @@ fn show_cuts(cuts: &Cuts) {
     }
 }
 
+/// The HMAC values that calls made, all compared; false where accepted calls of some kind but revoke made none, or refused ones
+/// of a kind that tests a key or a passphrase, or where a revoke made one, or where a kind of search was not met.
+fn show_values(both: &Both) -> bool {
+    println!("HMAC values made by calls, accepted and refused with 17:");
+    let mut complete = true;
+    for (name, [accepted, refused]) in KINDS.iter().zip(both.values) {
+        println!("  {name:10} {accepted:12} {refused:12}");
+        complete &= (accepted > 0) == (*name != "revoke");
+        complete &= (refused > 0) != ["format", "revoke"].contains(name);
+    }
+    let [early, vain] = both.searches;
+    println!("  searches of several slots that hit before the last: {early}, that tried all in vain: {vain}");
+    complete && early > 0 && vain > 0
+}
+
 /// The tables of calls by kind and number, of accepted calls by kind and profile, and of images shown; false if a
 /// number of 0 to 20 was never given, a call never accepted on a profile, a number of 0 to 6 never by the screens, or some
 /// kind of cut never met.
@@ -139,10 +154,11 @@ fn main() -> ExitCode {
         println!("FAILED with --calls {calls} --seed {seed} --profiles {profiles}: {message}");
         return ExitCode::FAILURE;
     }
-    if !table(&both) {
+    let (met, counted) = (table(&both), show_values(&both));
+    if !met || !counted {
         println!(
             "FAILED: a refusal number was not reached, by calls or screens, a call was never accepted on a profile, or a kind \
-             of cut was not met"
+             of cut, of search or of number of HMAC values was not met"
         );
         return ExitCode::FAILURE;
     }

@@ -2,7 +2,7 @@
 use mathlib.Core.Path.{_≡_, sym, ap, ap₂, _∙_}
 use mathlib.Core.Logic.{_≢_}
 use mathlib.Core.List.{List}
-use Prim.Native.Nat.{ℕ, _+_}
+use Prim.Native.Nat.{ℕ, _+_, _^_, _<_}
 use native.Mathlib.Omega.{arith}
 use lib.ListN.{length}
 use borrow.Author.Tests.{eqb-true}
@@ -157,11 +157,9 @@ put-list-requires c κs =
       list-room (s .args .image .now) ok (s .args .slot) (p .0) (a .result) (a .ensures .0) (n .enable-slot .last .0) (kept n) (s .args .list .now) (p .1 .1 .1 .1 .1 .1 .0),
     )
 
-add-values : tie.Need-add-t34
-add-values c =
-    let n = c .before .before .before .before .before .before .before .before in
-    let t = tested (matched (placed n)) .key-matches in
-    omega (arith, t .ensures .values-few, n .enable-slot .ensures .3)
+-- test and work add up in 64 bits
+fits : (n : tie.After-enable-slot) → tested (matched (placed n)) .key-matches .result .values + n .enable-slot .result < 2 ^ 64
+fits n = omega (arith, tested (matched (placed n)) .key-matches .ensures .values-few, n .enable-slot .ensures .3)
 
 returns-4 : tie.Need-returns-4
 unfolding answer done writes earlyChecks listOf testCost workCost
@@ -204,7 +202,7 @@ add-spec =
     area-of-requires
     enable-slot-requires
     put-list-requires
-    add-values
+    (λ c. omega (arith, fits (c .before .before .before .before .before .before .before .before)))
     (λ same-length-6. search needs)
     (λ same-length-7. search needs)
     returns-4)

@@ -3,7 +3,7 @@ use mathlib.Core.Path.{_≡_, refl, sym, ap, ap₂, _∙_}
 use mathlib.Core.Logic.{_≢_}
 use mathlib.Core.List.{List, _++_}
 use mathlib.Core.Bool.{true}
-use Prim.Native.Nat.{ℕ, _+_, _-_}
+use Prim.Native.Nat.{ℕ, _+_, _-_, _^_, _<_}
 use native.Mathlib.Omega.{arith}
 use lib.ListN.{length, take}
 use lib.Seq.{take-at}
@@ -177,11 +177,9 @@ move-key-requires c κs =
     let g = fit (judged t) in
     (ok₃ t, g .from-ok, g .to-ok, eq-eqb _ _ (ap length (front k) ∙ candidate-length k), g .new-ok, g .count-ok, g .random-ok, g .filler-ok, g .list-ok)
 
-add-values : tie.Need-add-t37
-add-values c =
-    let v = c .before .before .before .before .before in
-    let t = trial (v .before .before .before .before .before) .try-slot in
-    omega (arith, t .ensures .values-few, v .move-key .ensures .2)
+-- trial and work add up in 64 bits
+fits : (v : tie.After-move-key) → trial (v .before .before .before .before .before) .try-slot .result .values + v .move-key .result < 2 ^ 64
+fits v = omega (arith, trial (v .before .before .before .before .before) .try-slot .ensures .values-few, v .move-key .ensures .2)
 
 returns-4 : tie.Need-returns-4
 unfolding answer done writes listOf testCost workCost
@@ -227,7 +225,7 @@ change-spec =
     array-share-prefix-key
     slice-aggregate-move-key
     move-key-requires
-    add-values
+    (λ c. omega (arith, fits (c .before .before .before .before .before)))
     (λ same-length-6. search needs)
     (λ same-length-7. search needs)
     returns-4)

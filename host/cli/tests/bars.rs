@@ -3,9 +3,7 @@ mod common;
 #[path = "common/pty.rs"]
 mod pty;
 use common::*;
-use pty::{Session, Terminal};
-use std::path::Path;
-use std::process::Command;
+use pty::{command, shell, start, Session, Terminal};
 use std::sync::OnceLock;
 use std::time::Duration;
 
@@ -53,23 +51,6 @@ fn values(number: u64) -> String {
     let groups: Vec<&str> =
         digits.as_bytes().rchunks(3).rev().map(|group| std::str::from_utf8(group).unwrap()).collect();
     format!("{} HMAC values", groups.join(","))
-}
-
-fn command(folder: &Folder, line: &str) -> Command {
-    let mut command = tool();
-    command.args(line.split_whitespace()).current_dir(folder.path(""));
-    command
-}
-
-fn start(folder: &Folder, line: &str) -> Session {
-    Session::start(&mut command(folder, line), None)
-}
-
-// A line of the shell, in which $TOOL is the tool.
-fn shell(folder: &Folder, line: &str) -> Session {
-    let mut command = tool_at(Path::new("bash"));
-    command.args(["-c", line]).env("TOOL", env!("CARGO_BIN_EXE_mivrozh")).current_dir(folder.path(""));
-    Session::start(&mut command, None)
 }
 
 // What is drawn of a bar with this name: one text over the other, and the last, which ends the line.

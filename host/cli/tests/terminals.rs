@@ -3,9 +3,7 @@ mod common;
 #[path = "common/pty.rs"]
 mod pty;
 use common::*;
-use pty::{signal, Session, Terminal, VERASE, VKILL};
-use std::path::Path;
-use std::process::Command;
+use pty::{command, shell, signal, start, Session, Terminal, VERASE, VKILL};
 
 const PROMPT: &str = "Passphrase: ";
 const RIGHT: &str = "passphrase one\n";
@@ -24,23 +22,6 @@ const SIGTERM: i32 = 15;
 const SIGCONT: i32 = 18;
 const SIGSTOP: i32 = 19;
 const SIGTSTP: u32 = 20;
-
-fn command(folder: &Folder, line: &str) -> Command {
-    let mut command = tool();
-    command.args(line.split_whitespace()).current_dir(folder.path(""));
-    command
-}
-
-fn start(folder: &Folder, line: &str) -> Session {
-    Session::start(&mut command(folder, line), None)
-}
-
-// A line of the shell, in which $TOOL is the tool.
-fn shell(folder: &Folder, line: &str) -> Session {
-    let mut command = tool_at(Path::new("bash"));
-    command.args(["-c", line]).env("TOOL", env!("CARGO_BIN_EXE_mivrozh")).current_dir(folder.path(""));
-    Session::start(&mut command, None)
-}
 
 // The number that the terminal shows next, after these words and in brackets.
 fn number(session: &mut Session, words: &str) -> u32 {

@@ -1,12 +1,13 @@
 //! The tool at a terminal: a pseudo-terminal whose other end the test holds.
 #![allow(dead_code)]
+use crate::common::{tool, tool_at, Folder};
 use std::ffi::{c_char, CStr, CString};
 use std::fs::{File, OpenOptions};
 use std::io::{Read, Write};
 use std::os::fd::{AsRawFd, FromRawFd};
 use std::os::unix::fs::OpenOptionsExt;
 use std::os::unix::process::{CommandExt, ExitStatusExt};
-use std::path::PathBuf;
+use std::path::{Path, PathBuf};
 use std::process::{Child, Command, Stdio};
 use std::sync::mpsc::{channel, Receiver};
 use std::time::{Duration, Instant};
@@ -215,4 +216,23 @@ fn watch(mut terminal: File) -> Receiver<u8> {
         while terminal.read(&mut byte).is_ok_and(|count| count == 1) && sender.send(byte[0]).is_ok() {}
     });
     receiver
+}
+
+/// The tool in the folder, given the words of a line.
+pub fn command(folder: &Folder, line: &str) -> Command {
+    let mut command = tool();
+    command.args(line.split_whitespace()).current_dir(folder.path(""));
+    command
+}
+
+/// The same at a terminal of its own.
+pub fn start(folder: &Folder, line: &str) -> Session {
+    Session::start(&mut command(folder, line), None)
+}
+
+/// A line of the shell at a terminal, in which $TOOL is the tool.
+pub fn shell(folder: &Folder, line: &str) -> Session {
+    let mut command = tool_at(Path::new("bash"));
+    command.args(["-c", line]).env("TOOL", env!("CARGO_BIN_EXE_mivrozh")).current_dir(folder.path(""));
+    Session::start(&mut command, None)
 }

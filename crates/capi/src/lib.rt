@@ -1,69 +1,12 @@
-// The calls for C: each wraps one call and has its contract. host/include/mivrozh.h declares them. How many values of HMAC a call made is laid in
-// its last argument (02, Wish 6).
-use header::Outcome;
+// The calls for C: each wraps one call and has its contract. host/include/mivrozh.h declares them. What a call answers is laid in its last arguments
+// by the functions of `laying`, how many values of HMAC it made in the last one (02, Wish 6).
 use header::PayloadUnit;
-use opening::Opened;
-use screens::Entry;
-ghost use mathlib.Core.Path.{_≡_};
-ghost use mathlib.Core.List.{_∷_, map};
-ghost use lib.ListN.{length};
 ghost use Rattle.rules.specs.Facts.{slotInput};
 ghost use Rattle.rules.specs.Calls.{add, change, revoke, openSlot, openAny, read, write};
 ghost use Rattle.rules.specs.Format.{formatInput};
 ghost use Rattle.rules.specs.Contracts.{Does, DoesListed, DoesRead, DoesFormat, FillsOpened};
 ghost use Rattle.profiles.specs.Suites.{built};
-ghost use Rattle.header.specs.Refusals.{number};
 ghost use Rattle.screens.specs.Screens.{slotScreen, detailScreen, Shows, ShowsArrays};
-
-// What a call returns as C has it: the number is returned, and how many values it made is laid in `values`.
-fn lay_values(values: &mut u64, o: Outcome) -> u8
-    ensures { λ r. ⌜ (r ≡ number (o .refusal)) × (now (values .exit) ≡ o .values) ⌝ }
-{
-    let r = o.refusal;
-    *values = o.values;
-    header::number_of(r)
-}
-
-// An opening as C has it: the number is returned, slot, key length and the 64 key bytes are laid in the buffer, and the values as above.
-// These 66 bytes are the call's answer: zeros where it is refused (01: "refused, all of these are zero").
-fn lay_opened(opened: &mut [u8; 66], values: &mut u64, o: Opened) -> u8
-    ensures { λ r. ⌜ (r ≡ number (o .refusal)) × (now (opened .exit) ≡ o .slot ∷ o .«key_length» ∷ o .key) × (now (values .exit) ≡ o .values) ⌝ }
-{
-    let key = o.key;
-    let refusal = o.refusal;
-    octets::copy_into(opened, 0, &[o.slot, o.key_length]);
-    octets::copy_into(opened, 2, &key);
-    lay_values(
-        values,
-        Outcome {
-            refusal,
-            values: o.values,
-        },
-    )
-}
-
-// The entries of the second screen, a field to each buffer of eight numbers.
-fn lay_entries(
-    enabled: &mut [u8],
-    counts: &mut [u32],
-    starts: &mut [u32],
-    stripes: &mut [u32],
-    entries: [Entry; 8],
-)
-    requires { ⌜ (length (now enabled) ≡ 8) × (length (now counts) ≡ 8) × (length (now starts) ≡ 8) × (length (now stripes) ≡ 8) ⌝ }
-    ensures { λ _. ⌜ (now (enabled .exit) ≡ map (λ e. e .enabled) entries) × (now (counts .exit) ≡ map (λ e. e .count) entries)
-        × (now (starts .exit) ≡ map (λ e. e .start .0) entries) × (now (stripes .exit) ≡ map (λ e. e .stripes) entries) ⌝ }
-{
-    let mut i: usize = 0;
-    while i < 8 {
-        let e = entries[i];
-        enabled[i] = e.enabled;
-        counts[i] = e.count;
-        starts[i] = e.start.0;
-        stripes[i] = e.stripes;
-        i += 1;
-    }
-}
 
 #[no_mangle]
 pub extern "C" fn mivrozh_format(
@@ -79,7 +22,7 @@ pub extern "C" fn mivrozh_format(
     ensures { λ r. ⌜ DoesFormat built (formatInput profile stripes (now (key .entry)) (now (salt .entry)) count (now (uuid .entry)))
         (now (image .entry)) r (now (image .exit)) (now (values .exit)) ⌝ }
 {
-    lay_values(
+    laying::lay_values(
         values,
         formatting::format(image, profile, stripes, key, salt, count, uuid),
     )
@@ -101,7 +44,7 @@ pub extern "C" fn mivrozh_add(
         (add slot (now (key .entry)) (slotInput (now (passphrase .entry)) (now (salt .entry)) count (now (random .entry))) (now (list .entry)))
         r (now (image .exit)) (now (list .entry)) (now (list .exit)) (now (values .exit)) ⌝ }
 {
-    lay_values(
+    laying::lay_values(
         values,
         adding::add(image, slot, key, passphrase, salt, count, random, list),
     )
@@ -117,7 +60,7 @@ pub extern "C" fn mivrozh_open_slot(
 ) -> u8
     ensures { λ r. ⌜ FillsOpened built (now (image .entry)) (openSlot slot (now (passphrase .entry))) r (now (opened .exit)) (now (values .exit)) ⌝ }
 {
-    lay_opened(opened, values, opening::open_slot(image, slot, passphrase))
+    laying::lay_opened(opened, values, opening::open_slot(image, slot, passphrase))
 }
 
 #[no_mangle]
@@ -129,7 +72,7 @@ pub extern "C" fn mivrozh_open(
 ) -> u8
     ensures { λ r. ⌜ FillsOpened built (now (image .entry)) (openAny (now (passphrase .entry))) r (now (opened .exit)) (now (values .exit)) ⌝ }
 {
-    lay_opened(opened, values, opening::open(image, passphrase))
+    laying::lay_opened(opened, values, opening::open(image, passphrase))
 }
 
 #[no_mangle]
@@ -150,7 +93,7 @@ pub extern "C" fn mivrozh_change(
         (slotInput (now (new .entry)) (now (salt .entry)) count (now (random .entry))) (now (filler .entry)) (now (list .entry)))
         r (now (image .exit)) (now (list .entry)) (now (list .exit)) (now (values .exit)) ⌝ }
 {
-    lay_values(
+    laying::lay_values(
         values,
         changing::change(image, from, old, to, new, salt, count, random, filler, list),
     )
@@ -167,7 +110,7 @@ pub extern "C" fn mivrozh_revoke(
     ensures { λ r. ⌜ DoesListed built (now (image .entry)) (revoke slot (now (filler .entry)) (now (list .entry)))
         r (now (image .exit)) (now (list .entry)) (now (list .exit)) (now (values .exit)) ⌝ }
 {
-    lay_values(values, revoking::revoke(image, slot, filler, list))
+    laying::lay_values(values, revoking::revoke(image, slot, filler, list))
 }
 
 #[no_mangle]
@@ -182,7 +125,7 @@ pub extern "C" fn mivrozh_read(
     ensures { λ r. ⌜ DoesRead built (now (image .entry)) (read (now (key .entry)) first units (now (buffer .entry)))
         r (now (buffer .entry)) (now (buffer .exit)) (now (values .exit)) ⌝ }
 {
-    lay_values(
+    laying::lay_values(
         values,
         payload::read(image, key, PayloadUnit(first), PayloadUnit(units), buffer),
     )
@@ -200,7 +143,7 @@ pub extern "C" fn mivrozh_write(
     ensures { λ r. ⌜ Does built (now (image .entry)) (write (now (key .entry)) first units (now (buffer .entry))) r (now (image .exit))
         (now (values .exit)) ⌝ }
 {
-    lay_values(
+    laying::lay_values(
         values,
         payload::write(image, key, PayloadUnit(first), PayloadUnit(units), buffer),
     )
@@ -210,11 +153,7 @@ pub extern "C" fn mivrozh_write(
 pub extern "C" fn mivrozh_slots(image: &[u8], enabled: &mut [u8; 8]) -> u8
     ensures { λ r. ⌜ Shows (slotScreen built (now (image .entry))) r (now (enabled .exit)) ⌝ }
 {
-    let s = screens::slots(image);
-    let bits = s.enabled;
-    let r = s.refusal;
-    octets::copy_into(enabled, 0, &bits);
-    header::number_of(r)
+    laying::lay_slots(enabled, screens::slots(image))
 }
 
 #[no_mangle]
@@ -231,6 +170,6 @@ pub extern "C" fn mivrozh_slot_details(
     let s = screens::slot_details(image);
     let entries = s.entries;
     let r = s.refusal;
-    lay_entries(enabled, counts, starts, stripes, entries);
+    laying::lay_entries(enabled, counts, starts, stripes, entries);
     header::number_of(r)
 }

@@ -23,10 +23,14 @@ fn repository_root() -> PathBuf {
     here.ancestors().nth(2).expect("this crate stands in host/ of the repository").to_path_buf()
 }
 
+// How many checks rt runs at a time where the environment does not say: more than there are processors, since it waits for all of a batch.
+const JOBS: &str = "8";
+
 // Proves what the library needs, on all processors, and then writes it.
 fn build(root: &Path) {
+    let jobs = std::env::var("RT_JOBS").unwrap_or_else(|_| JOBS.to_string());
     for task in ["check", "staticlib"] {
-        match Command::new("rt").args([task, "capi"]).current_dir(root).status() {
+        match Command::new("rt").args([task, "capi"]).env("RT_JOBS", &jobs).current_dir(root).status() {
             Ok(status) if status.success() => {}
             Ok(status) => panic!("rt {task} capi failed ({status}); run it in {} to see why", root.display()),
             Err(error) => panic!("rt, the command of the Rattle toolchain, cannot be run: {error}"),

@@ -12,13 +12,14 @@ use Rattle.rules.specs.Checks.{Check, first, every}
 use Rattle.rules.specs.Profiles.{Table}
 use Rattle.rules.specs.Facts.{Facts, SlotInput, isEnabled, slotOf, factsOf}
 use Rattle.rules.specs.Header.{headerChecks, soundChecks}
-use Rattle.rules.specs.Calls.{Call, add, change, revoke, openSlot, openAny, read, write, opens, seek, rangeChecks, earlyChecks, lateChecks, done, opened, answer, refused}
+use Rattle.rules.specs.Calls.{Call, add, change, revoke, openSlot, openAny, read, write, opens, seek, rangeChecks, earlyChecks, lateChecks, opened, answer, refused}
 use Rattle.rules.specs.Step.{settle, step}
-use Rattle.rules.specs.Format.{FormatInput, suiteFor, formatChecks, settleFormat, format}
+use Rattle.rules.specs.Format.{FormatInput, suiteFor, formatChecks, format}
 use Rattle.rules.specs.Costs.{derivationCost, trialCost, enabledCost, trialsCost, searchCost, testCost, workCost, costOn, formatCost, OpeningCosts}
 use Rattle.rules.proofs.ChecksLaws.{accepted}
 use Rattle.rules.proofs.ArgumentLaws.{number-in}
-use Rattle.rules.proofs.StepLaws.{numbered-early, Refused, step-header, step-early, step-late, step-accepted}
+use Rattle.rules.proofs.FormatLaws.{number-of-format}
+use Rattle.rules.proofs.StepLaws.{numbered-early, answered-0, Refused, step-header, step-early, step-late, step-accepted}
 
 -- ---- sums over the m slots from k
 
@@ -56,7 +57,7 @@ module _ (f : Facts) where
     unfolding searchCost
     search-here k m e = let z : enabledCost f k + 0 ≡ enabledCost f k = omega arith in rw e z
 
-    seek-here : (k m : ℕ) → opens f k p ≡ true → seek f p k (suc m) ≡ k
+    pub seek-here : (k m : ℕ) → opens f k p ≡ true → seek f p k (suc m) ≡ k
     unfolding seek
     seek-here k m e = rw e
 
@@ -65,7 +66,7 @@ module _ (f : Facts) where
     unfolding searchCost
     search-on k m e = rw e
 
-    seek-on : (k m : ℕ) → opens f k p ≡ false → seek f p k (suc m) ≡ seek f p (suc k) m
+    pub seek-on : (k m : ℕ) → opens f k p ≡ false → seek f p k (suc m) ≡ seek f p (suc k) m
     unfolding seek
     seek-on k m e = rw e
 
@@ -91,7 +92,7 @@ module _ (f : Facts) where
         go false o q = let z = q (sym (seek-on k m o) ∙ e) in omega (arith, search-on k m o)
 
     -- the slot that opens is none before k
-    seek-from : (k m : ℕ) → seek f p k m ≢ 0 → k ≤ seek f p k m
+    pub seek-from : (k m : ℕ) → seek f p k m ≢ 0 → k ≤ seek f p k m
     unfolding seek
     seek-from k zero h = absurd (h refl)
     seek-from k (suc m) h = go (opens f k p) refl (seek-from (suc k) m)
@@ -168,26 +169,19 @@ late-late f (openAny passphrase) = refl
 late-late f (read key u n buffer) = refl
 late-late f (write key u n buffer) = refl
 
--- an accepted call answers 0
-answered-0 : (f : Facts) (c : Call) → answer f c .code ≡ 0
-unfolding answer done opened
-answered-0 f (add k key x list) = refl
-answered-0 f (change k passphrase to x filler list) = refl
-answered-0 f (revoke k filler list) = refl
-answered-0 f (openSlot k passphrase) = refl
-answered-0 f (openAny passphrase) = refl
-answered-0 f (read key u n buffer) = refl
-answered-0 f (write key u n buffer) = refl
-
 module _ (table : Table) (image : List ℕ) (c : Call) where
   abbrev f : Facts
   f = factsOf table image
 
+  -- header check and early checks pass, and the late ones give r
+  abbrev Until : ℕ → Type 0
+  Until r = (first (headerChecks table image) ≡ 0) × (first (earlyChecks f c) ≡ 0) × (first (lateChecks f c) ≡ r)
+
   -- the call's number r tells what it costs, v: nothing where it is refused before 17, its test with 17, its work too where it is accepted
   data Told (r v : ℕ) : Type 0 where
     before : r ≢ 0 → r ≢ 17 → v ≡ 0 → Told r v
-    with-17 : r ≡ 17 → first (earlyChecks f c) ≡ 0 → first (lateChecks f c) ≡ 17 → v ≡ testCost f c → Told r v
-    all-of-it : r ≡ 0 → first (earlyChecks f c) ≡ 0 → first (lateChecks f c) ≡ 0 → v ≡ testCost f c + workCost f c → Told r v
+    with-17 : r ≡ 17 → Until 17 → v ≡ testCost f c → Told r v
+    all-of-it : r ≡ 0 → Until 0 → v ≡ testCost f c + workCost f c → Told r v
 
   -- what the call answers, and what it costs
   abbrev number : ℕ
@@ -209,13 +203,13 @@ module _ (table : Table) (image : List ℕ) (c : Call) where
   by-late h e true z =
       let q : first (lateChecks f c) ≡ 0 = eqb-true (first (lateChecks f c)) 0 z in
       let s = step-accepted table image c h e q (testCost f c + workCost f c) refl in
-      all-of-it (ap (λ a. a .said .code) (s .0) ∙ answered-0 f c) e q (sym (s .1))
+      all-of-it (ap (λ a. a .said .code) (s .0) ∙ answered-0 f c) (h, e, q) (sym (s .1))
   by-late h e false z =
       let n : first (lateChecks f c) ≢ 0 = eqb-false (first (lateChecks f c)) 0 z in
       let l = first-passes late (lateChecks f c) refl (late-late f c) in
       let q : first (lateChecks f c) ≡ 17 = or-split (eqb (first (lateChecks f c)) 0) (eqb (first (lateChecks f c)) 17) l (λ t. absurd (n (eqb-true _ _ t))) (eqb-true _ _) in
       let s = step-late table image c h e (first (lateChecks f c)) n refl (testCost f c) refl in
-      with-17 (ap (λ a. a .said .code) (s .0) ∙ q) e q (sym (s .1))
+      with-17 (ap (λ a. a .said .code) (s .0) ∙ q) (h, e, q) (sym (s .1))
 
   by-early : first (headerChecks table image) ≡ 0 → (b : Bool) → eqb (first (earlyChecks f c)) 0 ≡ b → Told number values
   by-early h true z = by-late h (eqb-true _ _ z) (eqb (first (lateChecks f c)) 0) refl
@@ -230,18 +224,27 @@ module _ (table : Table) (image : List ℕ) (c : Call) where
 
   refused-by-told : (r v : ℕ) → Told r v → r ≢ 0 → r ≢ 17 → v ≡ 0
   refused-by-told r v (before n o e) h k = e
-  refused-by-told r v (with-17 q e l w) h k = absurd (k q)
-  refused-by-told r v (all-of-it q e l w) h k = absurd (h q)
+  refused-by-told r v (with-17 q u w) h k = absurd (k q)
+  refused-by-told r v (all-of-it q u w) h k = absurd (h q)
 
-  tested-by-told : (r v : ℕ) → Told r v → r ≡ 17 → (first (earlyChecks f c) ≡ 0) × (first (lateChecks f c) ≡ 17) × (v ≡ testCost f c)
+  tested-by-told : (r v : ℕ) → Told r v → r ≡ 17 → Until 17 × (v ≡ testCost f c)
   tested-by-told r v (before n o e) h = absurd (o h)
-  tested-by-told r v (with-17 q e l w) h = (e, l, w)
-  tested-by-told r v (all-of-it q e l w) h = absurd (omega arith)
+  tested-by-told r v (with-17 q u w) h = (u, w)
+  tested-by-told r v (all-of-it q u w) h = absurd (omega arith)
 
-  accepted-by-told : (r v : ℕ) → Told r v → r ≡ 0 → (first (lateChecks f c) ≡ 0) × (v ≡ testCost f c + workCost f c)
+  accepted-by-told : (r v : ℕ) → Told r v → r ≡ 0 → Until 0 × (v ≡ testCost f c + workCost f c)
   accepted-by-told r v (before n o e) h = absurd (n h)
-  accepted-by-told r v (with-17 q e l w) h = absurd (omega arith)
-  accepted-by-told r v (all-of-it q e l w) h = (l, w)
+  accepted-by-told r v (with-17 q u w) h = absurd (omega arith)
+  accepted-by-told r v (all-of-it q u w) h = (u, w)
+
+  -- 17 is given past the header check and the early checks, and so is 0
+  pub tested-checks : step table image c .said .code ≡ 17
+      → (first (headerChecks table image) ≡ 0) × (first (earlyChecks (factsOf table image) c) ≡ 0) × (first (lateChecks (factsOf table image) c) ≡ 17)
+  tested-checks h = tested-by-told number values told h .0
+
+  pub accepted-checks : step table image c .said .code ≡ 0
+      → (first (headerChecks table image) ≡ 0) × (first (earlyChecks (factsOf table image) c) ≡ 0) × (first (lateChecks (factsOf table image) c) ≡ 0)
+  accepted-checks h = accepted-by-told number values told h .0
 
   -- "all else 0": a call that is refused with another number than 17
   pub refused-cost : step table image c .said .code ≢ 0 → step table image c .said .code ≢ 17 → costOn table image c ≡ 0
@@ -249,7 +252,7 @@ module _ (table : Table) (image : List ℕ) (c : Call) where
 
   -- with 17
   pub tested-cost : step table image c .said .code ≡ 17 → costOn table image c ≡ testCost (factsOf table image) c
-  tested-cost h = tested-by-told number values told h .2
+  tested-cost h = tested-by-told number values told h .1
 
   -- an accepted call
   pub accepted-cost : step table image c .said .code ≡ 0 → costOn table image c ≡ testCost (factsOf table image) c + workCost (factsOf table image) c
@@ -261,15 +264,15 @@ module _ (table : Table) (image : List ℕ) (c : Call) where
   settled-answer r true e h = refl
   settled-answer r false e h = absurd (eqb-false r 0 e h)
 
-  accepted-answer : number ≡ 0 → step table image c .said ≡ answer f c
+  pub accepted-answer : step table image c .said .code ≡ 0 → step table image c .said ≡ answer (factsOf table image) c
   unfolding step
   accepted-answer h = settled-answer _ _ refl h
 
   -- what bounds the test of a call without work bounds the call
   most : (n : ℕ) → workCost f c ≡ 0 → (first (earlyChecks f c) ≡ 0 → testCost f c ≤ n) → (r v : ℕ) → Told r v → v ≤ n
   most n w h r v (before o p e) = omega arith
-  most n w h r v (with-17 q e l u) = let z = h e in omega arith
-  most n w h r v (all-of-it q e l u) = let z = h e in omega arith
+  most n w h r v (with-17 q u e) = let z = h (u .1) in omega arith
+  most n w h r v (all-of-it q u e) = let z = h (u .1) in omega arith
 
 -- ---- openings
 
@@ -286,7 +289,7 @@ module _ (table : Table) (image : List ℕ) where
       omega (arith, trial-most f 1 8 k (n .0) (omega arith))
 
   -- 17 of a search says that no slot opens, 0 that one does
-  finds-none : (p : List ℕ) → first (lateChecks (factsOf table image) (openAny p)) ≡ 17 → seek (factsOf table image) p 1 8 ≡ 0
+  pub finds-none : (p : List ℕ) → first (lateChecks (factsOf table image) (openAny p)) ≡ 17 → seek (factsOf table image) p 1 8 ≡ 0
   unfolding lateChecks first
   finds-none p = go (ltb 0 (seek (factsOf table image) p 1 8)) refl
     where
@@ -294,7 +297,7 @@ module _ (table : Table) (image : List ℕ) where
       go true q e = absurd (omega arith)
       go false q e = let z = ltb-false 0 (seek (factsOf table image) p 1 8) q in omega arith
 
-  finds-one : (p : List ℕ) → first (lateChecks (factsOf table image) (openAny p)) ≡ 0 → seek (factsOf table image) p 1 8 ≢ 0
+  pub finds-one : (p : List ℕ) → first (lateChecks (factsOf table image) (openAny p)) ≡ 0 → seek (factsOf table image) p 1 8 ≢ 0
   unfolding lateChecks first
   finds-one p = go (ltb 0 (seek (factsOf table image) p 1 8)) refl
     where
@@ -311,7 +314,7 @@ module _ (table : Table) (image : List ℕ) where
       let t = accepted-by-told table image (openAny p) _ _ (told table image (openAny p)) h in
       let s : step table image (openAny p) .said .slot ≡ seek f p 1 8 = ap (λ a. a .slot) (accepted-answer table image (openAny p) h) in
       let v : costOn table image (openAny p) ≡ searchCost f p 1 8 = let q = t .1 in omega arith in
-      v ∙ search-accepted f p (finds-one p (t .0)) ∙ ap (trialsCost f 1) (sym s)
+      v ∙ search-accepted f p (finds-one p (t .0 .2)) ∙ ap (trialsCost f 1) (sym s)
 
 -- for every table
 pub opening-costs : (table : Table) → OpeningCosts table
@@ -322,26 +325,17 @@ opening-costs table =
       search-most = λ image p. most table image (openAny p) _ refl (λ e. search-most (factsOf table image) p 1 8) _ _ (told table image (openAny p));
       refused-reaches = λ image p h.
           let t = tested-by-told table image (openAny p) _ _ (told table image (openAny p)) h in
-          t .2 ∙ search-none (factsOf table image) p 1 8 (omega arith) (finds-none table image p (t .1));
+          t .1 ∙ search-none (factsOf table image) p 1 8 (omega arith) (finds-none table image p (t .0 .2));
     }
 
 -- ---- format
 
 module _ (table : Table) (a : FormatInput) (image : List ℕ) where
-  format-number : (b : Bool) → eqb (first (formatChecks table a image)) 0 ≡ b → settleFormat table a image (first (formatChecks table a image)) b .code ≡ first (formatChecks table a image)
-  unfolding settleFormat
-  format-number true e = sym (eqb-true _ _ e)
-  format-number false e = refl
-
-  number-of-format : format table a image .code ≡ first (formatChecks table a image)
-  unfolding format
-  number-of-format = format-number (eqb (first (formatChecks table a image)) 0) refl
-
   -- "an accepted format ... one checksum, ... all else 0"
   pub format-accepted-cost : format table a image .code ≡ 0 → formatCost table a image ≡ suiteFor table a .made (a .count) 20
   unfolding formatCost
-  format-accepted-cost e = rw (sym number-of-format ∙ e)
+  format-accepted-cost e = rw (sym (number-of-format table a image) ∙ e)
 
   pub format-refused-cost : format table a image .code ≢ 0 → formatCost table a image ≡ 0
   unfolding formatCost
-  format-refused-cost n = rw (ne-eqb (first (formatChecks table a image)) 0 (λ e. n (number-of-format ∙ e)))
+  format-refused-cost n = rw (ne-eqb (first (formatChecks table a image)) 0 (λ e. n (number-of-format table a image ∙ e)))

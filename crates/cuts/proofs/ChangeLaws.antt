@@ -32,7 +32,7 @@ use Rattle.cuts.proofs.RoomLaws.{set-back}
 use Rattle.cuts.proofs.StageLaws.{stage-full, at-each}
 use Rattle.cuts.proofs.PrefixLaws.{two-prefix}
 use Rattle.cuts.proofs.AgainLaws.{header-ok, drive-accepted, count-at, put-good, other-slot, same-count, same-state, open-same}
-use Rattle.cuts.proofs.ReachLaws.{between-is, after-is, change-reaches, new-enabled, finish-reaches}
+use Rattle.cuts.proofs.ReachLaws.{reaches-list, between-is, after-is, change-reaches, new-enabled, finish-reaches}
 use Rattle.cuts.proofs.OneSlotLaws.{Safe, drive-set, entry-is, not-live, opens-live, content-in, after-good, ledger-after, not-disabled}
 
 module _ (table : Table) (l : Ledger) (g : GoodLedger table l) where
@@ -220,7 +220,7 @@ module _ (table : Table) (l : Ledger) (g : GoodLedger table l) where
                 open-same table d gd to (second-slot .0) (second-slot .1) b okb j h i (not-disabled table l g to second-disabled j h i key′ x′ e) (x′ .passphrase)
                 ∙ opens-live table l g j h i key′ x′ e;
             old-or-new = inl (open-same table d gd to (second-slot .0) (second-slot .1) b okb k (first-slot .0) (first-slot .1) apart passphrase ∙ first-opens);
-            once-more = first-once w;
+            once-more = λ off list′ h. reaches-list table z₁ call list′ h (driveImage table end) (first-once w off);
             finished = first-finish w;
           }
 
@@ -256,7 +256,7 @@ module _ (table : Table) (l : Ledger) (g : GoodLedger table l) where
                 ∙ opens-live table l g j h i key′ x′ e;
             old-or-new = inr
                 (open-same table mid mid-good k (first-slot .0) (first-slot .1) b okb to (second-slot .0) (second-slot .1) (λ q. apart (sym q)) (x .passphrase) ∙ second-opens);
-            once-more = λ off. no (sym off ∙ z₂-enabled);
+            once-more = λ off list′ h. no (sym off ∙ z₂-enabled);
             finished = λ on list′ h.
                 finish-reaches table d gd k to (first-slot .0) (first-slot .1) (second-slot .0) (second-slot .1) apart passphrase x filler list c fresh-ok void-ok b okb w list′
                 (h ∙ ap (λ (n : ℕ). n * entryBytes) z₂-count);

@@ -33,7 +33,7 @@ use Rattle.ledger.proofs.ReadingLaws.{start-at}
 use Rattle.cuts.proofs.StageLaws.{stage-full, at-each}
 use Rattle.cuts.proofs.PrefixLaws.{stage-prefix}
 use Rattle.cuts.proofs.AgainLaws.{header-ok, count-at, enable-put, disable-put, put-good, open-same}
-use Rattle.cuts.proofs.ReachLaws.{add-reaches, revoke-reaches}
+use Rattle.cuts.proofs.ReachLaws.{reaches-list, add-reaches, revoke-reaches}
 
 -- the three parts of the statement, by the facts of the image and the image after the call
 abbrev pub Safe : Table → Facts → List ℕ → Ledger → Call → List ℕ → Type 0
@@ -140,7 +140,9 @@ module _ (table : Table) (l : Ledger) (g : GoodLedger table l) where
               open-same table d gd k (range .0) (range .1) b okb j h i (not-disabled k (not-true _ (c .1 .0)) j h i key′ x′ e) (x′ .passphrase)
               ∙ opens-live table l g j h i key′ x′ e;
           old-or-new = tt;
-          once-more = λ u. add-reaches table d gd k (range .0) (range .1) b okb key x list new-ok c w;
+          once-more = λ u list′ e.
+              reaches-list table (driveImage table (setContent d k b)) (add k key x list) list′ e (driveImage table (setContent d k new))
+              (add-reaches table d gd k (range .0) (range .1) b okb key x list new-ok c w);
           finished = tt;
         }
 
@@ -190,7 +192,9 @@ module _ (table : Table) (l : Ledger) (g : GoodLedger table l) where
           live-opens = λ j h i key′ x′ e e′.
               open-same table d gd k (within .0) (within .1) b okb j h i (revoke-other j key′ x′ e′) (x′ .passphrase) ∙ opens-live table l g j h i key′ x′ e;
           old-or-new = tt;
-          once-more = λ u. revoke-reaches table d gd k (within .0) (within .1) b okb filler list gone-ok c w;
+          once-more = λ u list′ e.
+              reaches-list table (driveImage table (setContent d k b)) (revoke k filler list) list′ e (driveImage table (setContent d k gone))
+              (revoke-reaches table d gd k (within .0) (within .1) b okb filler list gone-ok c w);
           finished = tt;
         }
 

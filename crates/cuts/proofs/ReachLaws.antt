@@ -1,20 +1,22 @@
 -- A cut call given once more, and a cut change finished by a revoke, on a good drive.
-use mathlib.Core.Path.{_≡_, ap, _∙_}
+use mathlib.Core.Path.{_≡_, refl, sym, ap, _∙_}
 use mathlib.Core.Logic.{_≢_, _⊎_, inl, inr}
-use mathlib.Core.List.{List}
-use mathlib.Core.Bool.{true, not}
+use mathlib.Core.List.{List, _++_}
+use mathlib.Core.Bool.{Bool, true, false, not}
 use Prim.Native.Nat.{ℕ, _-_, _*_, _≤_}
 use native.Mathlib.Omega.{arith}
 use lib.Dec.{eqb}
 use lib.ListN.{length}
 use borrow.Author.Tests.{eq-eqb}
 use Rattle.octets.proofs.BoolLaws.{and-split}
-use Rattle.rules.specs.Checks.{first}
+use Rattle.rules.specs.Checks.{Check, first}
 use Rattle.rules.specs.Profiles.{Table}
-use Rattle.rules.specs.Facts.{Facts, SlotInput, enabled, isEnabled, slotOf, candidate}
+use Rattle.rules.specs.Facts.{Facts, SlotInput, enabled, isEnabled, slotOf, candidate, factsOf}
 use Rattle.rules.specs.Sectors.{entryBytes, slotCount}
-use Rattle.rules.specs.Calls.{add, change, revoke, slotNumberOk, randomOk, fillerOk, listOk, earlyChecks, lateChecks, checks, answer, done}
-use Rattle.rules.specs.Step.{After, written, enableWrites, disableWrites, writes}
+use Rattle.rules.specs.Header.{headerChecks}
+use Rattle.rules.specs.Calls.{Call, add, change, revoke, openSlot, openAny, read, write, slotNumberOk, randomOk, fillerOk, listOk, earlyChecks, lateChecks, checks}
+use Rattle.rules.specs.Calls.{answer, done, noKey, refused}
+use Rattle.rules.specs.Step.{After, written, enableWrites, disableWrites, writes, settle, step}
 use Rattle.rules.specs.Format.{keyBytesOf}
 use Rattle.rules.proofs.ChecksLaws.{Pass}
 use Rattle.rules.proofs.StepLaws.{written-append}
@@ -23,7 +25,7 @@ use Rattle.ledger.specs.Ledger.{empty, live, stateOf, contentOf}
 use Rattle.ledger.proofs.DriveLaws.{GoodDrive, GoodContent, contentAt}
 use Rattle.ledger.proofs.WritingLaws.{setContent}
 use Rattle.ledger.proofs.LedgerLaws.{contentIn}
-use Rattle.cuts.specs.CutSafe.{Reaches}
+use Rattle.cuts.specs.CutSafe.{withList, listLength, Reaches}
 use Rattle.ledger.proofs.ReadingLaws.{start-at}
 use Rattle.cuts.proofs.RoomLaws.{set-twice}
 use Rattle.cuts.proofs.AgainLaws.{other-yes, drive-accepted, drive-refused, enable-put, disable-put, put-good, other-slot, same-count, same-filler, state-now}
@@ -32,6 +34,56 @@ use Rattle.cuts.proofs.AgainLaws.{same-candidate, add-again, revoke-aga
 -- accepted, with this image
 abbrev leaves : List ℕ → After
 leaves i = record { said = done; image = i }
+
+-- ---- of the buffer for its list a call asks the length alone
+
+checks-list : (f : Facts) (c : Call) (b : List ℕ) → length b ≡ listLength c → checks f (withList c b) ≡ checks f c
+unfolding checks earlyChecks lateChecks listOk
+checks-list f (add k key x list) b e = rw e
+checks-list f (change k passphrase to x filler list) b e = rw e
+checks-list f (revoke k filler list) b e = rw e
+checks-list f (openSlot k passphrase) b e = refl
+checks-list f (openAny passphrase) b e = refl
+checks-list f (read key u n buffer) b e = refl
+checks-list f (write key u n buffer) b e = refl
+
+refused-list : (r : ℕ) (c : Call) (b : List ℕ) → refused r (withList c b) ≡ refused r c
+unfolding refused noKey
+refused-list r (add k key x list) b = refl
+refused-list r (change k passphrase to x filler list) b = refl
+refused-list r (revoke k filler list) b = refl
+refused-list r (openSlot k passphrase) b = refl
+refused-list r (openAny passphrase) b = refl
+refused-list r (read key u n buffer) b = refl
+refused-list r (write key u n buffer) b = refl
+
+accepted-list : (f : Facts) (c : Call) (image b : List ℕ) (r : ℕ) → settle f (withList c b) image r true ≡ settle f c image r true
+unfolding settle answer writes
+accepted-list f (add k key x list) image b r = refl
+accepted-list f (change k passphrase to x filler list) image b r = refl
+accepted-list f (revoke k filler list) image b r = refl
+accepted-list f (openSlot k passphrase) image b r = refl
+accepted-list f (openAny passphrase) image b r = refl
+accepted-list f (read key u n buffer) image b r = refl
+accepted-list f (write key u n buffer) image b r = refl
+
+settle-list : (f : Facts) (c : Call) (image b : List ℕ) (r : ℕ) (t : Bool) → settle f (withList c b) image r t ≡ settle f c image r t
+unfolding settle
+settle-list f c image b r true = accepted-list f c image b r
+settle-list f c image b r false = ap {B = After} (λ a. record { said = a; image = image }) (refused-list r c b)
+
+module _ (table : Table) (z : List ℕ) (c : Call) (b : List ℕ) (e : length b ≡ listLength c) where
+  step-list : step table z (withList c b) ≡ step table z c
+  unfolding step
+  step-list =
+      let f = factsOf table z in
+      let head = headerChecks table z in
+      ap (λ (cs : List Check). settle f (withList c b) z (first (head ++ cs)) (eqb (first (head ++ cs)) 0)) (checks-list f c b e)
+      ∙ settle-list f c z b (first (head ++ checks f c)) (eqb (first (head ++ checks f c)) 0)
+
+  pub reaches-list : (after : List ℕ) → Reaches table z c after → Reaches table z (withList c b) after
+  reaches-list after (inl q) = inl (step-list ∙ q)
+  reaches-list after (inr q) = inr (step-list ∙ q .0 ∙ ap {B = After} (λ a. record { said = a; image = z }) (sym (refused-list 15 c b)), q .1)
 
 -- ---- add and revoke, where slot k's content is b
 

@@ -39,6 +39,26 @@ InChange P (openAny passphrase) = Unit {0}
 InChange P (read key u n buffer) = Unit {0}
 InChange P (write key u n buffer) = Unit {0}
 
+-- the call with another buffer for its list: the first call has filled the one that it was lent
+abbrev pub withList : Call → List ℕ → Call
+withList (add k key x list) b = add k key x b
+withList (change k passphrase to x filler list) b = change k passphrase to x filler b
+withList (revoke k filler list) b = revoke k filler b
+withList (openSlot k passphrase) b = openSlot k passphrase
+withList (openAny passphrase) b = openAny passphrase
+withList (read key u n buffer) b = read key u n buffer
+withList (write key u n buffer) b = write key u n buffer
+
+-- the length of the buffer for its list, which check 20 asks for where the call is accepted
+abbrev pub listLength : Call → ℕ
+listLength (add k key x list) = length list
+listLength (change k passphrase to x filler list) = length list
+listLength (revoke k filler list) = length list
+listLength (openSlot k passphrase) = 0
+listLength (openAny passphrase) = 0
+listLength (read key u n buffer) = 0
+listLength (write key u n buffer) = 0
+
 -- ---- the images at cuts
 
 -- z is the image at a cut in the work on slot k that turns an image into after
@@ -78,8 +98,9 @@ pub record AtCut (table : Table) (f : Facts) (l : Ledger) (c : Call) (after z : 
   pub old-or-new : InChange (λ k passphrase to x filler.
       (step table z (openSlot k passphrase) .said ≡ gives f k (candidate f k passphrase))
       ⊎ (step table z (openSlot to (x .passphrase)) .said ≡ gives f to (candidate f k passphrase))) c
-  -- "Giving a cut add or revoke once more, or a cut change while its second slot is disabled"
-  pub once-more : InChange (λ k passphrase to x filler. isEnabled (slotOf (factsOf table z) to) ≡ false) c → Reaches table z c after
+  -- "Giving a cut add or revoke once more, or a cut change while its second slot is disabled", with any buffer of the same length
+  pub once-more : InChange (λ k passphrase to x filler. isEnabled (slotOf (factsOf table z) to) ≡ false) c
+      → (list : List ℕ) → length list ≡ listLength c → Reaches table z (withList c list) after
   -- "Once that slot is enabled, an accepted revoke of the first with the same filler finishes the change"; where it is not accepted, all is done
   pub finished : InChange (λ k passphrase to x filler.
       isEnabled (slotOf (factsOf table z) to) ≡ true → (list : List ℕ) → length list ≡ slotCount (factsOf table z) k * entryBytes

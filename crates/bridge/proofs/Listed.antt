@@ -66,7 +66,7 @@ pub lists-aligned : (A : ℕ) → 1 ≤ A → A < 2 ^ 32 → (a : FormatInput) �
 lists-aligned A l m a typed image after v f cs ts rs t c g tc bytes end list w e =
     let table = aligned built A in
     let z = lastLeft after rs in
-    let q : lastImage table a image cs ≡ z = ap (λ r. r .image) (trace-ends A l m a typed image after v f cs ts rs t) in
+    let q : lastImage table a image cs ≡ z = ap (λ r. r .image) (trace-ends A a image after v f cs rs t) in
     let yes′ = accepted A l m z bytes c g tc (bufferOf c) end list w (e .1) in
     record {
       list-is = list-aligned A l m z bytes c g tc (bufferOf c) end list w (e .1);

@@ -1,16 +1,19 @@
 -- A list of calls as the functions make it: each returns and leaves what its contract says, on the image that the one before it left.
 use mathlib.Core.Path.{_≡_}
 use mathlib.Core.List.{List, [], _∷_, map}
-use mathlib.Core.Bool.{cond}
-use Prim.Native.Nat.{ℕ}
+use mathlib.Core.Bool.{true, cond}
+use Prim.Native.Nat.{ℕ, _≤_}
 use lib.Dec.{eqb}
+use lib.ListN.{length}
+use Rattle.octets.specs.Octets.{padded}
 use Rattle.rules.specs.Profiles.{Table}
+use Rattle.rules.specs.Facts.{SlotInput}
 use Rattle.rules.specs.Calls.{Call, add, change, revoke, openSlot, openAny, read, write, Answer}
-use Rattle.rules.specs.Format.{FormatInput}
-use Rattle.rules.specs.Contracts.{Does, DoesListed, DoesOpen, DoesRead}
+use Rattle.rules.specs.Format.{FormatInput, keyBytesOf}
+use Rattle.rules.specs.Contracts.{Does, DoesListed, DoesOpen, DoesRead, DoesFormat}
 use Rattle.profiles.specs.Suites.{built}
-use Rattle.ledger.specs.Ledger.{ledgerImage}
-use Rattle.ledger.specs.Demand3.{ledgerAnswers, lastLedger}
+use Rattle.ledger.specs.Ledger.{live, lastWriting, ledgerImage}
+use Rattle.ledger.specs.Demand3.{FormatTyped, AllTyped, entryOf, sectorEntryOf, addAccepted, SomeLive, ledgerAnswers, lastLedger}
 
 -- what a function returned, with the number of HMAC values that it made, and what it left in what it was lent
 pub data Returned : Type 0 where
@@ -64,6 +67,10 @@ answerIn (changed r after v) = record { code = r; slot = 0; keyLength = 0; key =
 answerIn (opened r slot keyLength key v) = record { code = r; slot = slot; keyLength = keyLength; key = key; bytes = [] }
 answerIn (filled r buffer v) = record { code = r; slot = 0; keyLength = 0; key = []; bytes = cond (eqb r 0) buffer [] }
 
+-- the number in it: 0, or the refusal's
+abbrev pub numberIn : Returned → ℕ
+numberIn r = answerIn r .code
+
 -- the number of values (02, Wish 6), which is no part of the answer
 unfoldable pub valuesIn : Returned → ℕ
 valuesIn (listed r after list v) = v
@@ -83,7 +90,21 @@ abbrev pub lastLeft : List ℕ → List Returned → List ℕ
 lastLeft image [] = image
 lastLeft image (r ∷ rs) = lastLeft (imageLeft image r) rs
 
--- what the theorem says of them after an accepted format by the rules of a table: image and answers are the ledger's
+-- what the theorem says of them after an accepted format by the rules of a table: all that demand 3 says, of what the functions returned and left
 pub record FollowsLedger (table : Table) (a : FormatInput) (image after : List ℕ) (cs : List Call) (rs : List Returned) : Type 0 where
+  -- the whole image that they left is the ledger's, byte for byte
   pub image-is : lastLeft after rs ≡ ledgerImage table (lastLedger table a image cs)
+  -- each returned the ledger's answer
   pub answers-are : map answerIn rs ≡ ledgerAnswers table a image cs
+  -- each live slot opens: open_slot, called on the image that they left with the slot's number and passphrase, returns 0, the slot, L and the key it was added with
+  pub live-opens : (k : ℕ) → 1 ≤ k → k ≤ 8 → (key : List ℕ) (x : SlotInput) → entryOf (lastLedger table a image cs) k ≡ live key x
+      → (r : Returned) → Ensured (lastLeft after rs) (openSlot k (x .passphrase)) r → r ≡ opened 0 k (keyBytesOf table a) (padded 64 key) (valuesIn r)
+  -- each written sector reads back: read, called there with the key of its last writing, returns 0 and leaves in the buffer what was written
+  pub written-reads : (u : ℕ) (key plain : List ℕ) → sectorEntryOf (lastLedger table a image cs) u ≡ lastWriting key plain
+      → (buffer : List ℕ) → length buffer ≡ 512 → (r : Returned) → Ensured (lastLeft after rs) (read key u 1 buffer) r → r ≡ filled 0 plain (valuesIn r)
+  -- functions called one after the other that end in one ledger leave one image, also after two different formats
+  pub one-image : (a′ : FormatInput) → FormatTyped a′ → (image′ after′ : List ℕ) (v′ : ℕ) → DoesFormat table a′ image′ 0 after′ v′
+      → (cs′ : List Call) → AllTyped cs′ → (rs′ : List Returned) → Trace after′ cs′ rs′
+      → lastLedger table a image cs ≡ lastLedger table a′ image′ cs′ → lastLeft after rs ≡ lastLeft after′ rs′
+  -- after an add that returned 0 some slot is live
+  pub some-live : addAccepted cs (map answerIn rs) ≡ true → SomeLive (lastLedger table a image cs)

@@ -1,4 +1,5 @@
 pub mod Bridge
+pub mod Refused
 pub mod Listed
 pub mod Screened
 pub mod Counted

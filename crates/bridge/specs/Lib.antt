@@ -1,4 +1,5 @@
 pub mod Trace
+pub mod Refused
 pub mod Listed
 pub mod Screened
 pub mod Counted

@@ -41,6 +41,6 @@ each : (k : ℕ) → k < 255 → mul (suc k) (listed (suc k)) ≡ 1
 unfolding inverses _⊕_ xtime times mul
 each = same-below (λ k. mul (suc k) (listed (suc k))) (λ k. 1) 255 tt
 
-mul-inverse : (a : ℕ) → 1 ≤ a → a < 256 → mul a (inverse a) ≡ 1
+pub mul-inverse : (a : ℕ) → 1 ≤ a → a < 256 → mul a (inverse a) ≡ 1
 mul-inverse zero h l = absurd (omega arith)
 mul-inverse (suc k) h l = ap (mul (suc k)) (inverse-is (suc k) l) ∙ each k (omega arith)

@@ -1,6 +1,6 @@
--- The substitution and its inverse give bytes, and the inverse undoes the substitution: one test over all 256 bytes.
+-- The substitution and its inverse give bytes, and each undoes the other (02, Wish 3: "proved of all 256 values, both ways"): two tests over all bytes.
 use mathlib.Core.Path.{_≡_, ap, _∙_}
-use Prim.Native.Nat.{ℕ, zero, suc, _+_, _/_, _%_, _<_}
+use Prim.Native.Nat.{ℕ, zero, suc, _/_, _%_, _<_}
 use native.Mathlib.Nat.{mod-lt, zero-lt-suc}
 use native.Mathlib.Omega.{arith}
 use Rattle.octets.proofs.TableLaws.{same-below}
@@ -18,11 +18,11 @@ bits-byte f =
 
 affine-byte : (b : ℕ) → affine b < 256
 unfolding affine
-affine-byte b = bits-byte (λ i. bit b i + bit b ((i + 4) % 8) + bit b ((i + 5) % 8) + bit b ((i + 6) % 8) + bit b ((i + 7) % 8) + bit 99 i)
+affine-byte b = bits-byte _
 
 invAffine-byte : (b : ℕ) → invAffine b < 256
 unfolding invAffine
-invAffine-byte b = bits-byte (λ i. bit b ((i + 2) % 8) + bit b ((i + 5) % 8) + bit b ((i + 7) % 8) + bit 5 i)
+invAffine-byte b = bits-byte _
 
 factor-byte : (k a b : ℕ) → b < 256 → factor k a b < 256
 unfolding factor
@@ -58,7 +58,7 @@ pub invSub-is : (k : ℕ) → invSub k ≡ invSubListed k
 unfolding invSub
 invSub-is k = inverse-is (invAffine k) (invAffine-byte k)
 
--- ---- the inverse undoes it
+-- ---- each undoes the other
 
 undone : (k : ℕ) → k < 256 → invSubListed (subListed k) ≡ k
 unfolding inverses bit ofBits affine invAffine
@@ -66,3 +66,10 @@ undone = same-below (λ k. invSubListed (subListed k)) (λ k. k) 256 tt
 
 pub sub-undo : (k : ℕ) → k < 256 → invSub (sub k) ≡ k
 sub-undo k h = ap invSub (sub-is k h) ∙ invSub-is (subListed k) ∙ undone k h
+
+redone : (k : ℕ) → k < 256 → subListed (invSubListed k) ≡ k
+unfolding inverses bit ofBits affine invAffine
+redone = same-below (λ k. subListed (invSubListed k)) (λ k. k) 256 tt
+
+pub invSub-undo : (k : ℕ) → k < 256 → sub (invSub k) ≡ k
+invSub-undo k h = sub-is (invSub k) (invSub-byte k) ∙ ap subListed (invSub-is k) ∙ redone k h

@@ -1,11 +1,11 @@
 -- The last block of a message in each lane, and the place of blocks in the derived key.
-use mathlib.Core.Path.{_≡_, refl, ap, ap₂, _∙_}
+use mathlib.Core.Path.{_≡_, refl, sym, ap, _∙_}
 use mathlib.Core.List.{List, [], _∷_, _++_, append-assoc}
-use Prim.Native.Nat.{ℕ, zero, suc, _+_, _*_, _<_}
+use Prim.Native.Nat.{ℕ, suc, _+_, _*_, _≤_, _<_}
 use native.Mathlib.Numerals.{add-one}
 use native.Mathlib.Omega.{arith}
 use lib.ListN.{length, getD, take}
-use lib.Seq.{sets, sets-eq}
+use lib.Seq.{take-all, sets, sets-eq}
 use Rattle.octets.specs.Octets.{zeros, bigEndian}
 use Rattle.octets.specs.Pieces.{pieceCount}
 use Rattle.digest.specs.Chaining.{Compression, digest, padding}
@@ -17,9 +17,10 @@ use Rattle.hash.proofs.HashLaws.{lawful-compression, lawful}
 use Rattle.hmac.specs.Keyed.{keyed}
 use Rattle.lanes.specs.Lanes.{lane}
 use Rattle.lanes.proofs.LanesLaws.{four, lane-four, lane-five}
-use Rattle.pbkdf2.specs.Pbkdf2.{Ts, pbkdf2}
-use Rattle.pbkdf2.specs.Words.{paddingWords, lastBlock, blockWords, fourBlocks, firstBlocks, Holds}
-use Rattle.pbkdf2.proofs.Pbkdf2Laws.{Ts-end}
+use Rattle.pbkdf2.specs.Pbkdf2.{laid, pbkdf2}
+use Rattle.pbkdf2.specs.Words.{paddingWords, lastBlock, blockBytes, fourBlocks, Holds}
+use Rattle.pbkdf2.proofs.Pbkdf2Laws.{pieceCount-covers}
+use Rattle.pbkdf2.proofs.Rfc8018Laws.{rfc-8018}
 use Rattle.pbkdf2.proofs.WordsLaws.{F-blockWords}
 
 -- ---- the last block, in lanes
@@ -39,13 +40,13 @@ last-lane i w u h l lu =
 -- ---- blocks of the derived key
 
 module _ (C : Compression) (i o s : List ℕ) (c j : ℕ) (t : List ℕ) where
-  pub one-more : t ≡ digest (blockWords C i o s c (j + 1)) → firstBlocks C i o s c (j + 1) ≡ firstBlocks C i o s c j ++ t
-  unfolding firstBlocks
+  pub one-more : t ≡ blockBytes C i o s c (j + 1) → laid (blockBytes C i o s c) (j + 1) ≡ laid (blockBytes C i o s c) j ++ t
+  unfolding laid
   one-more e = rw (e, add-one)
 
 pub four-more : (i o s : List ℕ) (c j : ℕ) (t : List ℕ) → t ≡ fourBlocks i o s c (j + 1)
-    → firstBlocks sha1.compression i o s c (j + 4) ≡ firstBlocks sha1.compression i o s c j ++ t
-unfolding firstBlocks
+    → laid (blockBytes sha1.compression i o s c) (j + 4) ≡ laid (blockBytes sha1.compression i o s c) j ++ t
+unfolding laid
 four-more i o s c j t e =
     let n₁ : j + 1 ≡ suc j = omega arith in
     let n₂ : j + 1 + 1 ≡ suc (suc j) = omega arith in
@@ -61,13 +62,14 @@ padding-words Sha1 = refl
 padding-words Sha256 = refl
 
 -- under the password p they are those of RFC 8018, and all that out has room for are the derived key
-module _ (h : Hash) (p s i o : List ℕ) (c : ℕ) (ei : i ≡ keyed (compressionOf h) 0x36 p) (eo : o ≡ keyed (compressionOf h) 0x5c p) where
-  firstBlocks-Ts : (n : ℕ) → firstBlocks (compressionOf h) i o s c n ≡ Ts (digestOf h) p s c n
-  unfolding firstBlocks Ts
-  firstBlocks-Ts zero = refl
-  firstBlocks-Ts (suc n) =
-      ap₂ _++_ (firstBlocks-Ts n) (F-blockWords (compressionOf h) (lawful-compression h) (padding-words h) p s i o c (suc n) ei eo)
-
-  pub all-blocks : (out : List ℕ) (j : ℕ) → j ≡ pieceCount (digestOf h .size) (length out) → Holds (compressionOf h) i o s c j out
-      → out ≡ pbkdf2 (digestOf h) p s c (length out)
-  all-blocks out j ej b = Ts-end (digestOf h) (lawful h) p s c out j ej (b ∙ ap (take (length out)) (firstBlocks-Ts j))
+pub all-blocks : (h : Hash) (p s i o : List ℕ) (c : ℕ) → i ≡ keyed (compressionOf h) 0x36 p → o ≡ keyed (compressionOf h) 0x5c p
+    → (out : List ℕ) (j : ℕ) → j ≡ pieceCount (digestOf h .size) (length out) → Holds (compressionOf h) i o s c j out
+    → out ≡ pbkdf2 (digestOf h) p s c (length out)
+all-blocks h p s i o c ei eo out j ej b =
+    let C = compressionOf h in
+    let H = digestOf h in
+    let D = H .size in
+    let g : length out ≤ D * pieceCount D (length out) = pieceCount-covers D (length out) (omega (arith, lawful h .at-least)) in
+    sym (take-all (D * j) out (rw ej g)) ∙ b ∙ ap (λ (k : ℕ). take (length out) (laid (blockBytes C i o s c) k)) ej
+    ∙ rfc-8018 H (lawful h) .blocks-give p s c (length out) (blockBytes C i o s c)
+    (λ k l m. F-blockWords C (lawful-compression h) (padding-words h) p s i o c k ei eo)

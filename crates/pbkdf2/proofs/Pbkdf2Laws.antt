@@ -15,7 +15,7 @@ use Rattle.octets.proofs.PiecesLaws.{take-min}
 use Rattle.digest.specs.Digest.{Digest, LawfulDigest}
 use Rattle.hmac.specs.Hmac.{hmac}
 use Rattle.hmac.proofs.HmacLaws.{str-hmac}
-use Rattle.pbkdf2.specs.Pbkdf2.{iterated, folded, F, Ts, pbkdf2}
+use Rattle.pbkdf2.specs.Pbkdf2.{iterated, folded, F, laid, pbkdf2}
 
 -- ---- the loop over the iterations
 
@@ -55,7 +55,7 @@ str-folded D f u zero hf h = h
 str-folded D f u (suc n) hf h = str-xors (f (iterated f u n)) (str-folded D f u n hf h) (hf (iterated f u n) .byte)
 
 -- the pieces are enough
-pieceCount-covers : (D n : ℕ) → 1 ≤ D → n ≤ D * pieceCount D n
+pub pieceCount-covers : (D n : ℕ) → 1 ≤ D → n ≤ D * pieceCount D n
 pieceCount-covers D n h = omega (arith, lt-div-mul-add {a = n + (D - 1)} {b = D} h, mul-comm D (pieceCount D n))
 
 -- a piece begins before the end
@@ -97,19 +97,11 @@ module _ (H : Digest) (L : LawfulDigest H) (p s : List ℕ) (c : ℕ) where
   unfolding F
   str-F i = str-folded (H .size) (hmac H p) (hmac H p (s ++ be32 i)) (c - 1) (str-hmac H L p) (str-hmac H L p (s ++ be32 i))
 
-  str-Ts : (n : ℕ) → Str (H .size * n) (Ts H p s c n)
-  unfolding Ts
-  str-Ts zero = record { len = omega arith; byte = tt }
-  str-Ts (suc n) = str-cast (sym (mul-suc (H .size) n)) (str-append (str-Ts n) (str-F (suc n)))
+  pub str-laid : (n : ℕ) → Str (H .size * n) (laid (F H p s c) n)
+  unfolding laid
+  str-laid zero = record { len = omega arith; byte = tt }
+  str-laid (suc n) = str-cast (sym (mul-suc (H .size) n)) (str-append (str-laid n) (str-F (suc n)))
 
   pub str-pbkdf2 : (n : ℕ) → Str n (pbkdf2 H p s c n)
   unfolding pbkdf2
-  str-pbkdf2 n = str-crop n (str-Ts (pieceCount (H .size) n)) (pieceCount-covers (H .size) n (omega (arith, L .at-least)))
-
-  -- all blocks that out needs, cropped
-  pub Ts-end : (out : List ℕ) (j : ℕ) → j ≡ pieceCount (H .size) (length out) → take (H .size * j) out ≡ take (length out) (Ts H p s c j)
-      → out ≡ pbkdf2 H p s c (length out)
-  unfolding pbkdf2
-  Ts-end out j ej i =
-      let g : length out ≤ H .size * pieceCount (H .size) (length out) = pieceCount-covers (H .size) (length out) (omega (arith, L .at-least)) in
-      sym (take-all (H .size * j) out (rw ej g)) ∙ i ∙ ap (λ (k : ℕ). take (length out) (Ts H p s c k)) ej
+  str-pbkdf2 n = str-crop n (str-laid (pieceCount (H .size) n)) (pieceCount-covers (H .size) n (omega (arith, L .at-least)))

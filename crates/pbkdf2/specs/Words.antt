@@ -1,13 +1,13 @@
 -- PBKDF2 on chaining words, as the inner functions compute it: two compressions for a value of HMAC.
 use mathlib.Core.Path.{_≡_}
 use mathlib.Core.List.{List, [], _∷_, _++_}
-use Prim.Native.Nat.{ℕ, zero, suc, _+_, _-_, _*_}
+use Prim.Native.Nat.{ℕ, _+_, _-_, _*_}
 use lib.ListN.{length, take}
 use Rattle.octets.specs.Octets.{zeros, be32}
 use Rattle.digest.specs.Chaining.{Compression, digest, finish, chained}
 use Rattle.sha1.specs.Sha1 as sha1
 use Rattle.lanes.specs.Lanes.{lane, fourDigests}
-use Rattle.pbkdf2.specs.Pbkdf2.{folded}
+use Rattle.pbkdf2.specs.Pbkdf2.{folded, laid}
 
 -- the padding of a message of one whole block and n words, as the words that fill its last block
 unfoldable pub paddingWords : ℕ → List ℕ
@@ -30,14 +30,13 @@ module _ (C : Compression) where
   unfoldable pub blockWords : List ℕ → List ℕ → List ℕ → ℕ → ℕ → List ℕ
   blockWords i o s c n = folded (prfWords i o) (firstWords i o s n) (c - 1)
 
-  -- T_1 || .. || T_n
-  unfoldable pub firstBlocks : List ℕ → List ℕ → List ℕ → ℕ → ℕ → List ℕ
-  firstBlocks i o s c zero = []
-  firstBlocks i o s c (suc n) = firstBlocks i o s c n ++ digest (blockWords i o s c (suc n))
+  -- T_n
+  abbrev pub blockBytes : List ℕ → List ℕ → List ℕ → ℕ → ℕ → List ℕ
+  blockBytes i o s c n = digest (blockWords i o s c n)
 
   -- x holds T_1 || .. || T_n, cropped where it ends
   abbrev pub Holds : List ℕ → List ℕ → List ℕ → ℕ → ℕ → List ℕ → Type 0
-  Holds i o s c n x = take (chained C .size * n) x ≡ take (length x) (firstBlocks i o s c n)
+  Holds i o s c n x = take (chained C .size * n) x ≡ take (length x) (laid (blockBytes i o s c) n)
 
 -- in each lane of u the exclusive or of n + 1 values, of which u has the first, and these sums as bytes
 abbrev pub fourSums : (List ℕ → List ℕ) → ℕ → List (List ℕ) → List ℕ

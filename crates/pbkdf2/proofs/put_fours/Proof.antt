@@ -8,7 +8,8 @@ use lib.ListN.{length, take}
 use lib.Seq.{take-nil}
 use Rattle.octets.specs.Pieces.{pieceCount}
 use Rattle.sha1.specs.Sha1.{compression}
-use Rattle.pbkdf2.specs.Words.{firstBlocks, Holds}
+use Rattle.pbkdf2.specs.Pbkdf2.{laid}
+use Rattle.pbkdf2.specs.Words.{blockBytes, Holds}
 use Rattle.pbkdf2.proofs.Pbkdf2Laws.{more-made, few-made, few-blocks, blocks-more}
 use Rattle.pbkdf2.proofs.FoursLaws.{four-more}
 use Rattle.pbkdf2.proofs.put_fours.Statement.{statement}
@@ -22,7 +23,7 @@ abbrev μ-loop : tie.MeasureT-loop
 μ-loop out₀ inner outer salt count groups made₀ g₀ out made g = groups - g
 
 loop-holds : tie.Need-loop-holds Inv-loop μ-loop
-unfolding firstBlocks
+unfolding laid
 loop-holds c =
     let a = c .before .before .args in
     (omega arith, refl, sym (take-nil (length (a .out .now))), sym (mul-zero (a .count)))
@@ -53,7 +54,7 @@ loop-again c =
       omega arith,
       q .kept .0 ∙ l .inv .1,
       rw m
-          (blocks-more 20 (firstBlocks compression (take 5 (a .inner)) (take 5 (a .outer)) (a .salt .now) (a .count)) (l .out) (q .last .0) b (4 * l .g) 4 lt (omega arith)
+          (blocks-more 20 (laid (blockBytes compression (take 5 (a .inner)) (take 5 (a .outer)) (a .salt .now) (a .count))) (l .out) (q .last .0) b (4 * l .g) 4 lt (omega arith)
           (four-more (take 5 (a .inner)) (take 5 (a .outer)) (a .salt .now) (a .count) (4 * l .g) b (t .ensures .0)) (q .ensures) (l .inv .2)),
       rw m (more-made (a .count) (4 * l .g) 4 (l .made) (t .result .made) (l .inv .3) (t .ensures .1)),
     )

@@ -10,7 +10,8 @@ use lib.Seq.{take-nil}
 use Rattle.octets.specs.Pieces.{pieceCount}
 use Rattle.hash.specs.declared.Hash.{Hash}
 use Rattle.hash.specs.Hash.{compressionOf, digestOf, chain}
-use Rattle.pbkdf2.specs.Words.{firstBlocks, Holds}
+use Rattle.pbkdf2.specs.Pbkdf2.{laid}
+use Rattle.pbkdf2.specs.Words.{Holds}
 use Rattle.pbkdf2.proofs.put_lanes.Statement.{statement}
 use Rattle.pbkdf2.proofs.put_lanes.Tie as tie
 
@@ -27,7 +28,7 @@ returns c =
     subst (Done (a .inner) (a .outer) (a .salt .now) (a .count) (length (a .out .now)) _ (q .result) (q .last .0)) (sym (at .enum-told .given .1)) (omega arith, q .ensures .0, q .ensures .1)
 
 returns-2 : tie.Need-returns-2
-unfolding firstBlocks
+unfolding laid
 returns-2 c =
     let a = c .before .before .before .before .args in
     subst (Done (a .inner) (a .outer) (a .salt .now) (a .count) (length (a .out .now)) 0 0 (a .out .now)) (sym (c .enum-told2 .given .1))

@@ -8,7 +8,8 @@ use lib.ListN.{length, take}
 use lib.Seq.{length-take-le}
 use Rattle.octets.specs.Pieces.{pieceCount}
 use Rattle.hash.specs.Hash.{compressionOf, digestOf, chain}
-use Rattle.pbkdf2.specs.Words.{firstBlocks, Holds}
+use Rattle.pbkdf2.specs.Pbkdf2.{laid}
+use Rattle.pbkdf2.specs.Words.{blockBytes, Holds}
 use Rattle.pbkdf2.proofs.Pbkdf2Laws.{more-made, few-made, piece-inside, few-blocks, blocks-more}
 use Rattle.pbkdf2.proofs.FoursLaws.{one-more}
 use Rattle.pbkdf2.proofs.put_rest.Statement.{statement}
@@ -92,7 +93,7 @@ loop-again c =
     let k : D * l .j < length (l .out) = rw (z .ensures .0, ← (l .inv .1)) at i in (
       omega arith,
       q .kept .0 ∙ l .inv .1,
-      blocks-more D (firstBlocks C (chain (a .hash) (a .inner)) (chain (a .hash) (a .outer)) (a .salt .now) (a .count)) (l .out) (q .last .0) (take D r) (l .j) 1 lt k
+      blocks-more D (laid (blockBytes C (chain (a .hash) (a .inner)) (chain (a .hash) (a .outer)) (a .salt .now) (a .count))) (l .out) (q .last .0) (take D r) (l .j) 1 lt k
           (one-more C (chain (a .hash) (a .inner)) (chain (a .hash) (a .outer)) (a .salt .now) (a .count) (l .j) (take D r) (t .ensures .0)) (rw (z .ensures .0) at (q .ensures)) (l .inv .2),
       l .inv .3,
       more-made (a .count) (l .j) 1 (l .made) (t .result .made) (l .inv .4) (t .ensures .1 ∙ sym (one-mul (a .count))),

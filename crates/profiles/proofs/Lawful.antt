@@ -1,4 +1,5 @@
--- The table of the built profiles is lawful: its rows pass the tests, its suites obey the laws of a suite; merging undoes splitting with each hash.
+-- The table of the built profiles is lawful: its rows pass the tests, its suites obey the laws of a suite; merging undoes splitting with each hash, and
+-- deriving gives RFC 8018's bytes.
 use mathlib.Core.Path.{_≡_, refl}
 use mathlib.Core.List.{List}
 use mathlib.Core.Bool.{true}
@@ -9,7 +10,9 @@ use Rattle.digest.specs.Digest.{Digest, LawfulDigest}
 use Rattle.hash.specs.declared.Hash.{Hash}
 use Rattle.hash.specs.Hash.{digestOf}
 use Rattle.hash.proofs.HashLaws as hash
+use Rattle.pbkdf2.specs.Rfc8018.{Rfc8018}
 use Rattle.pbkdf2.proofs.Pbkdf2Laws.{str-pbkdf2}
+use Rattle.pbkdf2.proofs.Rfc8018Laws.{rfc-8018}
 use Rattle.xts.proofs.XtsLaws.{str-xtsEncrypt, str-xtsDecrypt, xtsDecrypt-xtsEncrypt}
 use Rattle.splitter.specs.Diffuse.{diffuse}
 use Rattle.splitter.proofs.DiffuseLaws.{str-diffuse, diffused-merge-split}
@@ -50,3 +53,7 @@ built-lawful = record { rows-ok = rows-ok; suites = λ k h. lawful k _; alignmen
 merge-split-hash : (h : Hash) (L n : ℕ) → 1 ≤ n → (random key : List ℕ) → Str ((n - 1) * L) random → Str L key
     → merge (diffuse (digestOf h)) L n (split (diffuse (digestOf h)) L n random key) ≡ key
 merge-split-hash h = diffused-merge-split (digestOf h) (hash.lawful h)
+
+-- deriving gives RFC 8018's bytes with each hash
+pub derives-hash : (h : Hash) → Rfc8018 (digestOf h)
+derives-hash h = rfc-8018 (digestOf h) (hash.lawful h)

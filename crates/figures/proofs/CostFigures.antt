@@ -26,7 +26,7 @@ use Rattle.profiles.specs.Suites.{aesXts, suiteOf, built}
 use Rattle.profiles.proofs.CostLaws.{checksum-made, blocks-most, keyBlocks, checksum-cost, derivation-cost}
 use Rattle.ledger.specs.Demand3.{FormatTyped, Typed}
 use Rattle.cuts.proofs.EntryLaws.{be32At-most}
-use Rattle.figures.specs.Figures.{Largest}
+use Rattle.figures.specs.Figures.{Largest, largestSum}
 
 -- ---- sums of m slots from k
 
@@ -46,7 +46,7 @@ module _ (f : Facts) (t : ℕ) where
 
 -- ---- the largest
 
-pub largest-trials : (f : Facts) → Largest f → trialsCost f 1 8 ≡ 171798691800
+pub largest-trials : (f : Facts) → Largest f → trialsCost f 1 8 ≡ largestSum
 unfolding enabledCost trialCost derivationCost checksumCost suiteOf aesXts hashOf valuesMade
 largest-trials f h =
     trials-same f 21474836475 1 8
@@ -105,12 +105,12 @@ module _ (image : List ℕ) (bytes : Bytes image) where
       go true = trial-most k
       go false = omega arith
 
-  pub trials-most : trialsCost (factsOf built image) 1 8 ≤ 171798691800
+  pub trials-most : trialsCost (factsOf built image) 1 8 ≤ largestSum
   trials-most = trials-bound f (C * 5) enabled-most 1 8
 
   -- ---- nor is any call's number beyond 64 bits
 
-  test-most : (c : Call) → testCost f c ≤ 171798691800
+  test-most : (c : Call) → testCost f c ≤ largestSum
   unfolding testCost
   test-most (add k key x list) = omega (arith, checksum-most)
   test-most (change k passphrase to x filler list) = omega (arith, trial-most k)

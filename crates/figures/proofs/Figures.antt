@@ -30,6 +30,7 @@ use Rattle.figures.specs.Figures.{Plain, pieceLengths, Figures}
 use Rattle.figures.proofs.ScreenFigures.{after-2, fresh-slots, fresh-details, added-slots}
 use Rattle.figures.proofs.ListFigures.{entries, list-bytes, add-sectors, change-sectors}
 use Rattle.figures.proofs.CostFigures.{largest-trials, trials-most, values-most, format-values-most}
+use Rattle.figures.proofs.LargestFigures.{largest-reached}
 
 -- what is left to check of plain arguments, where the image has n bytes
 abbrev lengthChecks : ℕ → List Check
@@ -175,6 +176,7 @@ figures =
       made-32-64 = refl;
       made-before-the-product = refl;
       largest-trials = largest-trials;
+      largest-reached = largest-reached;
       trials-most = trials-most;
       values-most = values-most;
       format-values-most = format-values-most;

@@ -1,4 +1,5 @@
 pub mod ListFigures
 pub mod CostFigures
+pub mod LargestFigures
 pub mod Figures
 pub mod ScreenFigures

@@ -1,27 +1,28 @@
 -- The figures of 01 ("Figures to check") and of Wishes 1, 2, 4, 5 and 6 of 02, as statements over the definitions that the calls' contracts cite.
 use mathlib.Core.Path.{_≡_}
-use mathlib.Core.List.{List, [], _∷_, _++_, map}
+use mathlib.Core.List.{List, [], _∷_, _++_, map, flatten}
 use mathlib.Core.Bool.{true, false, _||_}
 use Prim.Native.Nat.{ℕ, _+_, _-_, _*_, _^_, _≤_, _<_}
 use lib.Dec.{eqb}
 use lib.ListN.{length, replicate}
-use Rattle.octets.specs.Octets.{Bytes, zeros, same}
+use Rattle.octets.specs.Octets.{Bytes, zeros, padded, be32, same}
 use Rattle.octets.specs.Pieces.{inPieces}
 use Rattle.octets.specs.Splice.{part}
 use Rattle.hash.specs.Hash.{digestOf}
 use Rattle.gf256.specs.Field.{xtime, sub}
 use Rattle.suite.specs.Split.{split, merge}
 use Rattle.xts.specs.Xts.{double}
+use Rattle.rules.specs.Checks.{first}
 use Rattle.rules.specs.Layout.{areaSectors, areaStart, areasEnd, payloadStart, slots}
-use Rattle.rules.specs.Facts.{Facts, SlotInput, isEnabled, slotOf, factsOf}
-use Rattle.rules.specs.Header.{magic, sizeOk}
+use Rattle.rules.specs.Facts.{Facts, SlotInput, enabled, isEnabled, slotOf, factsOf}
+use Rattle.rules.specs.Header.{magic, version, sizeOk, headerChecks}
 use Rattle.rules.specs.Sectors.{encoded, areaCount, slotList}
 use Rattle.rules.specs.Calls.{Call, add, change}
-use Rattle.rules.specs.Step.{After, step}
+use Rattle.rules.specs.Step.{recordHead, After, step}
 use Rattle.rules.specs.Lists.{listOf}
 use Rattle.rules.specs.Format.{FormatInput, printable, format}
 use Rattle.rules.specs.Costs.{trialsCost, costOn, formatCost}
-use Rattle.profiles.specs.Rows.{hashOf}
+use Rattle.profiles.specs.Rows.{hashOf, aesXtsRow}
 use Rattle.profiles.specs.Suites.{suiteOf, alignment, built}
 use Rattle.screens.specs.Screens.{slotScreen, detailScreen}
 use Rattle.ledger.specs.Demand3.{FormatTyped, Typed, AllTyped, lastImage}
@@ -68,6 +69,41 @@ pub record Largest (f : Facts) : Type 0 where
   pub checksum-is : f .checksumCount ≡ 2 ^ 32 - 1
   pub enabled-all : (k : ℕ) → 1 ≤ k → k ≤ 8 → isEnabled (slotOf f k) ≡ true
   pub counts-are : (k : ℕ) → 1 ≤ k → k ≤ 8 → slotOf f k .count ≡ 2 ^ 32 - 1
+
+-- their sum of trials
+abbrev pub largestSum : ℕ
+largestSum = 171798691800
+
+-- a drive of ten sectors that is such: the fields before its slots, with payload start 10; checksum, salt and UUID are zeros
+unfoldable pub largestFields : List (List ℕ)
+largestFields =
+    let p = aesXtsRow 2 64 in
+    magic
+    ∷ version
+    ∷ padded 32 (p .cipher)
+    ∷ padded 32 (p .mode)
+    ∷ padded 32 (p .hash)
+    ∷ be32 10
+    ∷ be32 (p .keyBytes)
+    ∷ zeros 20
+    ∷ zeros 32
+    ∷ be32 (2 ^ 32 - 1)
+    ∷ zeros 40
+    ∷ []
+
+-- the record of its slot k, from 0: one stripe, in sector k + 2
+unfoldable pub largestRecord : ℕ → List ℕ
+largestRecord k = recordHead enabled (2 ^ 32 - 1) (zeros 32) ++ (be32 (k + 2) ++ be32 1)
+
+-- the header, and zeros after it
+unfoldable pub largestImage : List ℕ
+largestImage = padded (10 * 512) (flatten largestFields ++ flatten (map largestRecord slots))
+
+-- an image whose header is accepted, and its sum of trials
+pub record Reaches (image : List ℕ) (sum : ℕ) : Type 0 where
+  pub bytes : Bytes image
+  pub accepted : first (headerChecks built image) ≡ 0
+  pub sum-is : trialsCost (factsOf built image) 1 8 ≡ sum
 
 -- the one table
 pub record Figures : Type 0 where
@@ -161,8 +197,9 @@ pub record Figures : Type 0 where
   pub made-32-32 : suiteOf 3 .made 1000 32 ≡ 1000
   pub made-32-64 : suiteOf 4 .made 1000 64 ≡ 2000
   pub made-before-the-product : suiteOf 1 .made 1001 32 ≡ 2002
-  -- the largest sum of trials, which no drive's exceeds, and so every number of a call is one of 64 bits
-  pub largest-trials : (f : Facts) → Largest f → trialsCost f 1 8 ≡ 171798691800
-  pub trials-most : (image : List ℕ) → Bytes image → trialsCost (factsOf built image) 1 8 ≤ 171798691800
+  -- the largest sum of trials, which an accepted drive has and no drive's exceeds, and so every number of a call is one of 64 bits
+  pub largest-trials : (f : Facts) → Largest f → trialsCost f 1 8 ≡ largestSum
+  pub largest-reached : Reaches largestImage largestSum
+  pub trials-most : (image : List ℕ) → Bytes image → trialsCost (factsOf built image) 1 8 ≤ largestSum
   pub values-most : (image : List ℕ) → Bytes image → (c : Call) → Typed c → costOn built image c < 2 ^ 64
   pub format-values-most : (a : FormatInput) (image : List ℕ) → FormatTyped a → formatCost built a image < 2 ^ 64

@@ -12,7 +12,7 @@ use Rattle.octets.specs.Octets.{xors, zeros}
 use Rattle.octets.specs.Pieces.{pieces, inPieces}
 use Rattle.octets.proofs.XorLaws.{zero-⊕}
 use Rattle.gf256.proofs.Figures.{sub-0x00, xtime-0x80}
-use Rattle.pbkdf2.specs.Pbkdf2.{valuesMade}
+use Rattle.pbkdf2.specs.Pbkdf2.{laid, valuesMade}
 use Rattle.suite.specs.Split.{running, split, mergeFrom, merge}
 use Rattle.xts.proofs.Figures.{double-first, double-last}
 use Rattle.rules.specs.Checks.{Check, first}
@@ -22,6 +22,7 @@ use Rattle.rules.specs.Header.{sizeOk}
 use Rattle.rules.specs.Format.{FormatInput, formatChecks, settleFormat, format}
 use Rattle.profiles.specs.Rows.{hashOf, aesXtsRow, rows}
 use Rattle.profiles.specs.Suites.{alignment, aesXts, suiteOf, built}
+use Rattle.profiles.proofs.Lawful.{derives-hash}
 use Rattle.screens.specs.Screens.{enabledBit, detailsOf, noDetails}
 use Rattle.ledger.specs.Ledger.{startLedger, setSlot}
 use Rattle.ledger.proofs.LayoutLaws.{end-is, end-most}
@@ -116,7 +117,7 @@ module _ (H : List ℕ → List ℕ) (key : List ℕ) where
   one-merged = rw (zero-mul (length key)) (zeros-xors key)
 
 pub figures : Figures
-unfolding areaSectors roundUp areaStart areasEnd payloadStart first startLedger ledgerSlots setSlot liveBit noDetails suiteOf aesXts hashOf valuesMade
+unfolding areaSectors roundUp areaStart areasEnd payloadStart first startLedger ledgerSlots setSlot liveBit noDetails suiteOf aesXts hashOf laid valuesMade
 figures =
     record {
       sectors-32 = refl;
@@ -153,6 +154,8 @@ figures =
       pieces-2 = pieces-2;
       pieces-3 = pieces-3;
       pieces-4 = pieces-4;
+      derived-1 = λ p s c. derives-hash (hashOf 1) .key-is p s c 32 (omega arith);
+      derived-4 = λ p s c. derives-hash (hashOf 4) .key-is p s c 64 (omega arith);
       one-stripe = λ k. one-stripe _;
       one-merged = λ k. one-merged _;
       fresh-slots = fresh-slots;

@@ -4,11 +4,12 @@ use mathlib.Core.List.{List, [], _∷_, _++_, map, flatten}
 use mathlib.Core.Bool.{true, false, _||_}
 use Prim.Native.Nat.{ℕ, _+_, _-_, _*_, _^_, _≤_, _<_}
 use lib.Dec.{eqb}
-use lib.ListN.{length, replicate}
+use lib.ListN.{length, take, replicate}
 use Rattle.octets.specs.Octets.{Bytes, zeros, padded, be32, same}
 use Rattle.octets.specs.Pieces.{inPieces}
 use Rattle.octets.specs.Splice.{part}
 use Rattle.hash.specs.Hash.{digestOf}
+use Rattle.pbkdf2.specs.Pbkdf2.{F}
 use Rattle.gf256.specs.Field.{xtime, sub}
 use Rattle.suite.specs.Split.{split, merge}
 use Rattle.xts.specs.Xts.{double}
@@ -61,6 +62,10 @@ listNumbers a image cs c = let z = lastImage built a image cs in map (λ w. w .0
 -- how long the pieces are into which H cuts x, with the hash of profile k
 abbrev pub pieceLengths : ℕ → List ℕ → List ℕ
 pieceLengths k x = inPieces (digestOf (hashOf k) .size) (λ i piece. length piece ∷ []) 0 x
+
+-- T_i of PBKDF2 with the hash of profile k
+abbrev pub blockOf : ℕ → List ℕ → List ℕ → ℕ → ℕ → List ℕ
+blockOf k password salt count i = F (digestOf (hashOf k)) password salt count i
 
 -- eight enabled slots of profile 2 (SHA-1, 64 key bytes), and each count the largest that four bytes hold
 pub record Largest (f : Facts) : Type 0 where
@@ -154,6 +159,9 @@ pub record Figures : Type 0 where
   -- "the pieces are then 32 bytes" (02, Wish 1), of profiles 3 and 4
   pub pieces-3 : (x : List ℕ) → length x ≡ 32 → pieceLengths 3 x ≡ 32 ∷ []
   pub pieces-4 : (x : List ℕ) → length x ≡ 64 → pieceLengths 4 x ≡ 32 ∷ 32 ∷ []
+  -- "PBKDF2 numbers its blocks from 1 ... and crops the last" (01, "Ciphers and hashes"): the L bytes of profile 1, and of profile 4
+  pub derived-1 : (p s : List ℕ) (c : ℕ) → suiteOf 1 .derive p s c 32 ≡ blockOf 1 p s c 1 ++ take 12 (blockOf 1 p s c 2)
+  pub derived-4 : (p s : List ℕ) (c : ℕ) → suiteOf 4 .derive p s c 64 ≡ blockOf 4 p s c 1 ++ take 32 (blockOf 4 p s c 2)
   -- "With n = 1 the only stripe is the key", of every profile
   pub one-stripe : (k : ℕ) (key : List ℕ) → split (suiteOf k .diffuse) (length key) 1 [] key ≡ key
   pub one-merged : (k : ℕ) (key : List ℕ) → merge (suiteOf k .diffuse) (length key) 1 key ≡ key

@@ -1,2 +1,3 @@
 pub mod CutsComputed
 pub mod CutExampleHolds
+pub mod RealCut

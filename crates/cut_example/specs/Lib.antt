@@ -1,1 +1,2 @@
 pub mod CutExample
+pub mod RealCut

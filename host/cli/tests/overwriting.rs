@@ -10,7 +10,7 @@ use std::io::{Read, Seek, SeekFrom, Write};
 use std::os::unix::fs::OpenOptionsExt;
 use std::path::Path;
 use std::process::Command;
-use std::time::Duration;
+use std::time::{Duration, Instant};
 
 const O_EXCL: i32 = 0o200;
 const FORMAT: &str = "format --iterations 1000 --stripes 40 --key-file one new";
@@ -173,6 +173,16 @@ fn a_mounted_file_system_stays() {
     assert!(checked.status.success(), "{checked:?}");
 }
 
+// Runs a line of words on a device that the test has held, as soon as it is free: a process that another test is just starting may
+// hold it for a moment longer.
+fn accepted_once_free(folder: &Folder, line: &str) {
+    let (start, mut said) = (Instant::now(), folder.line(line));
+    while said.status != 0 && start.elapsed() < Duration::from_secs(10) {
+        said = folder.line(line);
+    }
+    said.accepted();
+}
+
 // What the block device holds.
 fn contents(device: &Loop, length: usize) -> Vec<u8> {
     let mut bytes = vec![0; length];
@@ -213,7 +223,8 @@ fn every_command_works_on_a_block_device_that_nothing_else_uses() {
     folder.line(&format!("read --key-file three --out again {}", device.0)).accepted();
     drop(held);
     assert!(contents(&device, LENGTH) == before);
-    run("add --iterations 1000 --key-file three --new-key-file two");
+    let line = format!("add --iterations 1000 --key-file three --new-key-file two {}", device.0);
+    accepted_once_free(&folder, &line);
 }
 
 #[test]
@@ -242,5 +253,5 @@ fn a_block_device_for_the_output() {
     folder.line(&format!("{line} --force")).failed(73, "it cannot be opened for writing");
     held.flush().expect("the device");
     drop(held);
-    folder.line(&format!("{line} --force")).accepted();
+    accepted_once_free(&folder, &format!("{line} --force"));
 }

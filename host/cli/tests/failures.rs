@@ -387,16 +387,15 @@ fn a_full_disk_for_the_output() {
     of_output(output).failed(74, "incomplete: the disk is full; make room");
 }
 
-// Root without the right to mount has no small disk to fill; the cuts' tests fill one in any case.
+// Who may not mount has no small disk to fill; the cuts' tests fill one in any case.
 #[test]
 fn a_full_disk_for_the_image() {
     let folder = Folder::with_drive();
     let disk = folder.path("disk");
     fs::create_dir(&disk).expect("a folder");
     let mount = Command::new("mount").args(["-t", "tmpfs", "-o", "size=64k", "none"]).arg(&disk).output();
-    if !mount.is_ok_and(|output| output.status.success()) {
-        eprintln!("no small disk can be mounted here");
-        return;
+    if !mount.as_ref().is_ok_and(|output| output.status.success()) {
+        return missing(&format!("no small disk can be mounted here: {mount:?}"));
     }
     let tried = std::panic::catch_unwind(|| {
         let sparse = File::create(disk.join("drive")).expect("a file");

@@ -140,8 +140,7 @@ fn bash_completes() {
 #[test]
 fn fish_completes() {
     if !is_there("fish") {
-        println!("fish is not there: its completions were not tried");
-        return;
+        return missing("fish is not installed");
     }
     let folder = Folder::new();
     folder.put("drive.img", "");
@@ -177,7 +176,7 @@ fn every_shell_can_read_its_completions() {
         if is_there(shell) {
             said(Command::new(shell).arg("-n").arg(script)).accepted();
         } else {
-            println!("{shell} is not there: its completions were not read by it");
+            missing(&format!("{shell} is not installed"));
         }
     }
 }

@@ -24,10 +24,9 @@ impl Region {
     }
 }
 
-// Nothing where the system does not let this process look.
-fn regions(process: u32) -> Option<Vec<Region>> {
+fn regions(process: u32) -> Vec<Region> {
     let mut regions: Vec<Region> = Vec::new();
-    for line in std::fs::read_to_string(format!("/proc/{process}/smaps")).ok()?.lines() {
+    for line in std::fs::read_to_string(format!("/proc/{process}/smaps")).expect("the tool's mappings").lines() {
         let range = line.split(' ').next().and_then(|range| range.split_once('-'));
         let range = range.map(|(start, end)| (usize::from_str_radix(start, 16), usize::from_str_radix(end, 16)));
         match (range, line.strip_prefix("VmFlags:"), regions.last_mut()) {
@@ -38,31 +37,34 @@ fn regions(process: u32) -> Option<Vec<Region>> {
             _ => {}
         }
     }
-    Some(regions)
+    regions
 }
 
 // Whether the system lets a process lock as much as the tool does: the stack, and some pages for a passphrase.
 fn may_lock() -> bool {
     let memory = vec![0; mivrozh::LOCKED_STACK + 64 * 1024];
     // SAFETY: the memory is the test's.
-    unsafe { mlock(memory.as_ptr(), memory.len()) == 0 && munlock(memory.as_ptr(), memory.len()) == 0 }
+    let locked = unsafe { mlock(memory.as_ptr(), memory.len()) == 0 && munlock(memory.as_ptr(), memory.len()) == 0 };
+    if !locked {
+        missing("the system does not let this user lock so much memory");
+    }
+    locked
 }
 
 #[test]
 fn a_passphrase_and_the_engines_stack_are_locked_and_not_dumped() {
-    let folder = Folder::with_drive();
+    let (folder, may_lock) = (Folder::with_drive(), may_lock());
+    if !folder.may_look() {
+        return;
+    }
     let mut tool = tool();
     tool.args(["test", "--key-file", "-", "drive"]).current_dir(folder.path("")).stdin(Stdio::piped());
     let mut child = tool.stdout(Stdio::null()).spawn().expect("the tool runs");
-    let guarded = |region: &&Region| region.has("dd") && (region.has("lo") || !may_lock());
+    let guarded = |region: &&Region| region.has("dd") && (region.has("lo") || !may_lock);
     let (mut of_stack, mut others) = (0, 0);
     let start = Instant::now();
     while (of_stack < mivrozh::LOCKED_STACK || others == 0) && start.elapsed() < Duration::from_secs(10) {
-        let Some(regions) = regions(child.id()) else {
-            println!("the tool's mappings cannot be seen by this user: nothing was tested");
-            child.kill().and_then(|()| child.wait()).expect("the tool ends");
-            return;
-        };
+        let regions = regions(child.id());
         // The pieces of the stack follow one another, and the uppermost has its name.
         let mut lowest = regions.iter().find(|region| region.is_stack).map_or(0, |region| region.end);
         for region in regions.iter().rev().filter(|region| region.flags.iter().any(|flag| flag == "gd")) {

@@ -108,13 +108,14 @@ struct Loop(String);
 
 impl Loop {
     fn over(file: &Path) -> Option<Loop> {
-        let output = Command::new("losetup").args(["--find", "--show"]).arg(file).output().ok()?;
-        let name = String::from_utf8(output.stdout).ok()?.trim().to_owned();
-        let found = output.status.success() && Path::new(&name).exists();
-        if !found {
-            eprintln!("no loop device can be made here");
+        let output = Command::new("losetup").args(["--find", "--show"]).arg(file).output();
+        let made = output.as_ref().ok().filter(|output| output.status.success());
+        let name = made.map(|output| String::from_utf8_lossy(&output.stdout).trim().to_owned());
+        let device = name.filter(|name| Path::new(name).exists()).map(Loop);
+        if device.is_none() {
+            missing(&format!("no loop device can be made here: {output:?}"));
         }
-        found.then_some(Loop(name))
+        device
     }
 }
 
@@ -156,8 +157,7 @@ fn a_mounted_file_system_stays() {
     std::fs::create_dir(&place).expect("a folder");
     let mounted = Command::new("mount").arg(&device.0).arg(&place).output().expect("mount runs");
     if !mounted.status.success() {
-        eprintln!("nothing can be mounted here");
-        return;
+        return missing(&format!("nothing can be mounted here: {mounted:?}"));
     }
     let mounted = Mounted(&place);
     std::fs::write(place.join("pedigrees"), pattern(100_000)).expect("a file on the disk");

@@ -5,7 +5,7 @@ mod pty;
 use common::*;
 use pty::{Session, Terminal, ICANON};
 use std::fs::File;
-use std::os::unix::fs::{FileExt, MetadataExt};
+use std::os::unix::fs::FileExt;
 use std::process::{Command, Stdio};
 use std::time::Duration;
 
@@ -244,15 +244,6 @@ fn format_asks_before_it_overwrites_a_drive() {
     assert!(folder.opens("two") && !folder.opens("one"));
 }
 
-// The tool lets nobody but root look into it.
-fn may_look(folder: &Folder) -> bool {
-    let is_root = folder.path("").metadata().is_ok_and(|own| own.uid() == 0);
-    if !is_root {
-        eprintln!("only root can look into the tool");
-    }
-    is_root
-}
-
 // What /proc says of the tool: a number after a word.
 fn number_of(session: &Session, file: &str, word: &str) -> usize {
     let text = std::fs::read_to_string(format!("/proc/{}/{file}", session.process())).expect("a file of the tool's");
@@ -265,7 +256,7 @@ fn number_of(session: &Session, file: &str, word: &str) -> usize {
 fn an_endless_answer_takes_no_memory() {
     const MIB: usize = 1024 * 1024;
     let folder = Folder::with_drive();
-    if !may_look(&folder) {
+    if !folder.may_look() {
         return;
     }
     let line = format!("format --iterations 1000 --stripes {STRIPES} --key-file two drive");
@@ -322,7 +313,7 @@ fn remembers(process: u32, bytes: &[u8]) -> bool {
 #[test]
 fn nothing_of_a_passphrase_stays_in_memory() {
     let folder = Folder::with_drive();
-    if !may_look(&folder) {
+    if !folder.may_look() {
         return;
     }
     let mut session = start(&folder, "add --iterations 1000 drive");

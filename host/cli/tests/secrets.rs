@@ -58,9 +58,12 @@ fn core_files(folder: &Folder) -> usize {
 #[test]
 fn an_abort_dumps_no_core() {
     let folder = Folder::with_drive();
+    if !folder.may_look() {
+        return;
+    }
     let control = aborted(with_half_a_passphrase(Command::new("cat").current_dir(folder.path(""))));
     if !control.core_dumped() {
-        eprintln!("this machine dumps no core of any process");
+        missing("this machine dumps no core of any process");
     }
     let before = core_files(&folder);
     let mut command = tool();
@@ -74,6 +77,9 @@ fn an_abort_dumps_no_core() {
 #[test]
 fn the_limit_is_zero_and_the_process_not_dumpable() {
     let folder = Folder::with_drive();
+    if !folder.may_look() {
+        return;
+    }
     let program = folder.path("mivrozh");
     assert!(Command::new("cp").arg(env!("CARGO_BIN_EXE_mivrozh")).arg(&program).status().expect("cp runs").success());
     let mut command = tool_at(&program);
@@ -85,10 +91,10 @@ fn the_limit_is_zero_and_the_process_not_dumpable() {
     let process = Path::new("/proc").join(child.id().to_string());
     let owner = process.join("environ").metadata().expect("the process").uid();
     assert_eq!(owner, 0, "of a process that may be dumped this belongs to its user");
-    let limits = std::fs::read_to_string(process.join("limits")).unwrap_or_default();
+    let limits = std::fs::read_to_string(process.join("limits")).expect("the process's limits");
     let core = limits.lines().find(|line| line.starts_with("Max core file size"));
     let words: Vec<&str> = core.unwrap_or_default().split_whitespace().skip(4).take(2).collect();
-    assert!(limits.is_empty() || words == ["0", "0"], "{limits}");
+    assert_eq!(words, ["0", "0"], "{limits}");
     aborted(child);
 }
 

@@ -1,6 +1,8 @@
 //! Where secrets stand: in memory that is locked and left out of core dumps, as the kernel says it of this process. A
 //! lock that is refused is no failure.
 mod limits;
+mod missing;
+use missing::missing;
 use mivrozh::{Drive, FormatInput, Opened, Profile, Secret, SlotInput};
 use std::sync::Mutex;
 
@@ -46,6 +48,15 @@ fn may_lock(length: usize) -> bool {
     locked
 }
 
+// The same; where it is not so, the test cannot see that a secret is locked.
+fn lets_lock(length: usize) -> bool {
+    let locked = may_lock(length);
+    if !locked {
+        missing(&format!("the system does not let this user lock {length} bytes"));
+    }
+    locked
+}
+
 // In a thread that has no right to lock beyond the limit, and with a limit of so many bytes.
 fn with_limit(bytes: u64, work: impl FnOnce() + Send) {
     let before = limits::limit();
@@ -77,7 +88,7 @@ fn opened() -> Opened {
 fn a_secret_is_locked_and_left_out_of_dumps() {
     let _alone = ALONE.lock().unwrap_or_else(|poisoned| poisoned.into_inner());
     for length in [1, 64, 3 * PAGE + 1] {
-        let allowed = may_lock(length.next_multiple_of(PAGE));
+        let allowed = lets_lock(length.next_multiple_of(PAGE));
         let mut made = Secret::zeroed(length);
         made.expose_mut()[length - 1] = 1;
         for secret in [made, Secret::from(vec![1; length]), Secret::from(&vec![1; length][..])] {
@@ -98,7 +109,7 @@ fn an_opened_key_is_locked_and_left_out_of_dumps() {
     let _alone = ALONE.lock().unwrap_or_else(|poisoned| poisoned.into_inner());
     let opened = opened();
     let flags = flags_of(opened.key.expose().as_ptr());
-    assert!(has(&flags, "dd") && (has(&flags, "lo") || !may_lock(PAGE)), "{flags:?}");
+    assert!(has(&flags, "dd") && (has(&flags, "lo") || !lets_lock(PAGE)), "{flags:?}");
 }
 
 #[test]
@@ -149,7 +160,7 @@ fn the_stack_of_a_call_is_locked_and_left_out_of_dumps() {
         let depths = [PAGE, mivrozh::raw::WIPED_STACK, mivrozh::LOCKED_STACK - PAGE];
         let flags = |depth: &usize| flags_of(here.wrapping_sub(*depth));
         assert!(depths.iter().all(|depth| !has(&flags(depth), "lo") && !has(&flags(depth), "dd")));
-        let allowed = may_lock(mivrozh::LOCKED_STACK + PAGE);
+        let allowed = lets_lock(mivrozh::LOCKED_STACK + PAGE);
         mivrozh::lock_stack();
         for depth in depths {
             let flags = flags(&depth);

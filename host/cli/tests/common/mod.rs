@@ -1,5 +1,9 @@
 //! What the tests of the tool share: a folder of their own, the tool run as a user runs it, small drives.
 #![allow(dead_code)]
+#[path = "../../../mivrozh/tests/missing/mod.rs"]
+mod missing;
+#[allow(unused_imports)]
+pub use missing::missing;
 use std::ffi::OsStr;
 use std::fs;
 use std::os::unix::fs::{MetadataExt, PermissionsExt};
@@ -110,6 +114,15 @@ impl Folder {
             command.uid(NOBODY).gid(NOBODY);
         }
         said(&mut command)
+    }
+
+    /// Whether the owner of the folder may look into the tool that runs there: it lets nobody but root.
+    pub fn may_look(&self) -> bool {
+        let is_root = self.0.metadata().is_ok_and(|own| own.uid() == 0);
+        if !is_root {
+            missing("this user, who is not root, cannot look into the tool");
+        }
+        is_root
     }
 
     /// A folder with key files `one`, `two`, `three`, and a small drive `drive` whose slot 1 has the passphrase of `one`.

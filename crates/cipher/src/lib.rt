@@ -1,16 +1,14 @@
 // AES (FIPS 197) for keys of 16 and 32 bytes, 32 blocks at a time and with no table: no index and no branch comes from a key or from data.
 // The blocks are 128 words: word 4 b + c is column c of block b, its first row in the lowest byte. The rounds work on bit planes.
 ghost use mathlib.Core.Path.{_≡_};
-ghost use mathlib.Core.List.{List, [], _∷_};
-ghost use Prim.Native.Nat.{ℕ, _+_, _*_, _/_, _%_, _<_, _≤_};
+ghost use mathlib.Core.List.{List};
+ghost use Prim.Native.Nat.{ℕ, _+_, _-_, _*_, _/_, _%_, _<_, _≤_};
 ghost use lib.ListN.{length, take, drop};
 ghost use Rattle.octets.specs.Octets.{be32, xors};
 ghost use Rattle.octets.specs.Splice.{part, splice};
+ghost use Rattle.gf256.specs.Field.{xtime};
 ghost use Rattle.aes.specs.Aes.{subBytes, invSubBytes, shiftRows, invShiftRows, mixColumns, invMixColumns, cipher, invCipher, rotWord, rcon, temp, nextWord, expand};
 ghost use Rattle.aes.specs.Planes.{column, block, state, Sliced};
-
-// The round constants (5.2).
-const RCON: [u8; 10] = [0x01, 0x02, 0x04, 0x08, 0x10, 0x20, 0x40, 0x80, 0x1b, 0x36];
 
 // ---- the rounds, on bit planes. SUBBYTES and SHIFTROWS may change places (5.3.5): a round key is added in the pass of SHIFTROWS, so
 // that a round here begins with the key that ends the round before it.
@@ -131,22 +129,33 @@ fn word_at(w: &[u8], at: usize) -> u32
     octets::be32_at(w, at)
 }
 
-// The first byte of Rcon[j + 1] (5.2), as a word.
-fn round_constant(j: usize) -> u32
-    requires { ⌜ j < 10 ⌝ }
-    ensures { λ r. ⌜ be32 r ≡ rcon j ∷ 0 ∷ 0 ∷ 0 ∷ [] ⌝ }
+// XTIMES (4.2): the byte shifted left by one; a bit shifted out adds 0x1b.
+fn double(a: u8) -> u8
+    ensures { λ r. ⌜ r ≡ xtime a ⌝ }
 {
-    octets::be32_of(RCON[j], 0, 0, 0)
+    let c = a >> 7;
+    (a << 1) ^ (((c << 5) - c) & 0x1b)
+}
+
+// The first byte of the round constant of word i (5.2), constant being that of word i - 1: doubled at each multiple of nk.
+fn next_constant(constant: u8, nk: usize, i: usize) -> u8
+    requires { ⌜ (4 ≤ nk) × (nk < i) × (constant ≡ rcon ((i - 1) / nk - 1)) ⌝ }
+    ensures { λ r. ⌜ r ≡ rcon (i / nk - 1) ⌝ }
+{
+    if i % nk == 0 {
+        return double(constant);
+    }
+    constant
 }
 
 // What KEYEXPANSION (5.2) adds to word i - nk, t being word i - 1.
-fn temp_word(t: u32, nk: usize, i: usize) -> u32
-    requires { ⌜ (4 ≤ nk) × (nk ≤ i) × (i < (nk + 7) * 4) ⌝ }
+fn temp_word(t: u32, nk: usize, i: usize, constant: u8) -> u32
+    requires { ⌜ (4 ≤ nk) × (constant ≡ rcon (i / nk - 1)) ⌝ }
     ensures { λ r. ⌜ be32 r ≡ temp nk i (be32 t) ⌝ }
 {
     let p = i % nk;
     if p == 0 {
-        return sub_word(rot_word(t)) ^ round_constant(i / nk - 1);
+        return sub_word(rot_word(t)) ^ octets::be32_of(constant, 0, 0, 0);
     }
     if nk <= 6 {
         return t;
@@ -158,11 +167,11 @@ fn temp_word(t: u32, nk: usize, i: usize) -> u32
 }
 
 // Word i of the schedule w (5.2), which has the words before it.
-fn next_word(w: &[u8], nk: usize, i: usize) -> u32
-    requires { ⌜ (4 ≤ nk) × (nk ≤ i) × (i < (nk + 7) * 4) × (i * 4 ≤ length (now w)) ⌝ }
+fn next_word(w: &[u8], nk: usize, i: usize, constant: u8) -> u32
+    requires { ⌜ (4 ≤ nk) × (nk ≤ i) × (i * 4 ≤ length (now w)) × (constant ≡ rcon (i / nk - 1)) ⌝ }
     ensures { λ r. ⌜ be32 r ≡ nextWord nk i (now (w .entry)) ⌝ }
 {
-    word_at(w, (i - nk) * 4) ^ temp_word(word_at(w, (i - 1) * 4), nk, i)
+    word_at(w, (i - nk) * 4) ^ temp_word(word_at(w, (i - 1) * 4), nk, i, constant)
 }
 
 // KEYEXPANSION (5.2) of a key of 4 to 8 words, at the start of the result.
@@ -173,11 +182,13 @@ pub fn expand_key(key: &[u8]) -> [u8; 240]
     let mut w = [0u8; 240];
     octets::copy_into(&mut w, 0, key);
     let nk = key.len() / 4;
+    let mut constant: u8 = 1;
     let mut i = nk;
     while i < (nk + 7) * 4 {
-        let x = octets::be32(next_word(&w, nk, i));
+        let x = octets::be32(next_word(&w, nk, i, constant));
         octets::copy_into(&mut w, i * 4, &x);
         i += 1;
+        constant = next_constant(constant, nk, i);
     }
     w
 }

@@ -21,8 +21,8 @@ pub fn put_names(h: &mut [u8], p: Profile)
     let cipher = p.cipher;
     let mode = p.mode;
     let hash = p.hash;
-    octets::copy_into(h, offsets::MAGIC, b"LUKS\xba\xbe");
-    octets::copy_into(h, offsets::VERSION, b"\x00\x01");
+    octets::copy_into(h, offsets::MAGIC, &header::LUKS_MAGIC);
+    octets::copy_into(h, offsets::VERSION, &header::VERSION_1);
     octets::copy_into(h, offsets::CIPHER, &cipher);
     octets::copy_into(h, offsets::MODE, &mode);
     octets::copy_into(h, offsets::HASH, &hash);

@@ -116,10 +116,10 @@ pub fn header_check(image: &[u8]) -> Refusal
     if !size_ok(image) {
         return Refusal::ImageSize;
     }
-    if !octets::equal(&image[MAGIC..VERSION], b"LUKS\xba\xbe") {
+    if !octets::equal(&image[MAGIC..VERSION], &crate::LUKS_MAGIC) {
         return Refusal::Magic;
     }
-    if !octets::equal(&image[VERSION..CIPHER], b"\x00\x01") {
+    if !octets::equal(&image[VERSION..CIPHER], &crate::VERSION_1) {
         return Refusal::Version;
     }
     if crate::facts::profile_in(image) == 0 {

@@ -2,7 +2,7 @@
 use header::ImageSector;
 ghost use mathlib.Core.Path.{_≡_};
 ghost use mathlib.Core.Bool.{true};
-ghost use Prim.Native.Nat.{_+_, _*_, _≤_};
+ghost use Prim.Native.Nat.{_+_, _*_, _≤_, _<_};
 ghost use lib.ListN.{length};
 ghost use Rattle.octets.specs.Splice.{splice};
 ghost use Rattle.rules.specs.Sectors.{sectorsFrom, encoded, entryBytes, slotCount};
@@ -68,21 +68,23 @@ fn put_sector(list: &mut [u8], at: usize, image: &[u8], sector: ImageSector)
     octets::copy_into(list, at + 4, &image[start..end]);
 }
 
+// The sector at index i of an area, counted from 0.
+fn sector_at(area: Area, i: u32) -> ImageSector
+    requires { ⌜ (i < area .sectors) × (area .start .0 + area .sectors ≤ area .payload .0) ⌝ }
+    ensures { λ r. ⌜ r .0 ≡ area .start .0 + i ⌝ }
+{
+    ImageSector(area.start.0 + i)
+}
+
 // The entries of an area's sectors, rising.
 fn put_sectors(list: &mut [u8], at: usize, image: &[u8], area: Area)
     requires { ⌜ Within area (now image) × (at + area .sectors * entryBytes ≤ length (now list)) ⌝ }
     ensures { λ _. ⌜ now (list .exit) ≡ splice (now (list .entry)) at (encoded (sectorsFrom (now (image .entry)) (area .start .0) (area .sectors))) ⌝ }
 {
-    let start = area.start;
     let count = area.sectors;
     let mut i: u32 = 0;
     while i < count {
-        put_sector(
-            list,
-            at + i as usize * ENTRY,
-            image,
-            ImageSector(start.0 + i),
-        );
+        put_sector(list, at + i as usize * ENTRY, image, sector_at(area, i));
         i += 1;
     }
 }

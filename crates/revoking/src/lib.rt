@@ -50,13 +50,14 @@ fn revoke_check(image: &[u8], slot: u8, filler: &[u8], list: &[u8]) -> Refusal
     }
     let another = other_enabled(image, (slot - 1) as usize);
     let fills = header::arguments::filler_ok(image, slot, filler);
+    let listed = sectors::list_ok(image, slot, list);
     if !another {
         return Refusal::LastSlot;
     }
     if !fills {
         return Refusal::BadLength;
     }
-    if !sectors::list_ok(image, slot, list) {
+    if !listed {
         return Refusal::BadBuffer;
     }
     Refusal::Accepted

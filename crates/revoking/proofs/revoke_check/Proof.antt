@@ -27,13 +27,13 @@ abbrev start-2 : tie.Else2 → tie.Start
 start-2 c = start-1 (c .before .before)
 
 abbrev start-3 : tie.Else3 → tie.Start
-start-3 c = start-2 (c .before .before .before)
+start-3 c = start-2 (c .before .before .before .before)
 
 abbrev start-4 : tie.Else4 → tie.Start
 start-4 c = start-3 (c .before)
 
 abbrev start-5 : tie.Else5 → tie.Start
-start-5 c = start-4 (c .before .before)
+start-5 c = start-4 (c .before)
 
 number-ok : (c : tie.Else1) → slotNumberOk (start-1 c .args .slot) ≡ true
 number-ok c = holds (c .before .slot-number-ok .ensures) (c .if1 .left)
@@ -48,11 +48,11 @@ pass-2 c = pass-next (checks (start-2 c)) 1 (pass-1 (c .before .before)) (holds 
 
 pass-3 : (c : tie.Else3) → Pass (take 3 (checks (start-3 c)))
 unfolding earlyChecks
-pass-3 c = pass-next (checks (start-3 c)) 2 (pass-2 (c .before .before .before)) (holds (c .before .before .other-enabled .ensures) (c .if3 .left))
+pass-3 c = pass-next (checks (start-3 c)) 2 (pass-2 (c .before .before .before .before)) (holds (c .before .before .before .other-enabled .ensures) (c .if3 .left))
 
 pass-4 : (c : tie.Else4) → Pass (take 4 (checks (start-4 c)))
 unfolding earlyChecks
-pass-4 c = pass-next (checks (start-4 c)) 3 (pass-3 (c .before)) (holds (c .before .before .filler-ok .ensures) (c .if4 .left))
+pass-4 c = pass-next (checks (start-4 c)) 3 (pass-3 (c .before)) (holds (c .before .before .before .filler-ok .ensures) (c .if4 .left))
 
 -- ---- needs
 
@@ -79,27 +79,26 @@ other-enabled-requires c κs =
 filler-ok-requires : tie.Need-filler-ok-requires
 filler-ok-requires c κs = let p = c .before in (start-2 p .pre, number-ok (p .before .before))
 
+list-ok-requires : tie.Need-list-ok-requires
+list-ok-requires c κs = let p = c .before .before in (start-2 p .pre, number-ok (p .before .before))
+
 returns-3 : tie.Need-returns-3
 unfolding earlyChecks
-returns-3 c = refused-by _ 2 (pass-2 (c .before .before .before)) (fails (c .before .before .other-enabled .ensures) (c .if3 .taken))
+returns-3 c = refused-by _ 2 (pass-2 (c .before .before .before .before)) (fails (c .before .before .before .other-enabled .ensures) (c .if3 .taken))
 
 returns-4 : tie.Need-returns-4
 unfolding earlyChecks
-returns-4 c = refused-by _ 3 (pass-3 (c .before)) (fails (c .before .before .filler-ok .ensures) (c .if4 .taken))
-
-list-ok-requires : tie.Need-list-ok-requires
-unfolding earlyChecks
-list-ok-requires c κs = (start-4 c .pre, pass-4 c .0)
+returns-4 c = refused-by _ 3 (pass-3 (c .before)) (fails (c .before .before .before .filler-ok .ensures) (c .if4 .taken))
 
 returns-5 : tie.Need-returns-5
 unfolding earlyChecks
-returns-5 c = refused-by _ 4 (pass-4 (c .before .before)) (fails (c .before .list-ok .ensures) (c .if5 .taken))
+returns-5 c = refused-by _ 4 (pass-4 (c .before)) (fails (c .before .before .before .list-ok .ensures) (c .if5 .taken))
 
 returns-6 : tie.Need-returns-6
 unfolding earlyChecks
 returns-6 c =
     let all = checks (start-5 c) in
-    all-pass all (pass-next all 4 (pass-4 (c .before .before)) (holds (c .before .list-ok .ensures) (c .if5 .left)))
+    all-pass all (pass-next all 4 (pass-4 (c .before)) (holds (c .before .before .before .list-ok .ensures) (c .if5 .left)))
 
 pub revoke-check-spec : {M : Type 1} → statement M
 revoke-check-spec =
@@ -113,8 +112,8 @@ revoke-check-spec =
     (λ cast-other-enabled. search needs)
     other-enabled-requires
     filler-ok-requires
+    list-ok-requires
     returns-3
     returns-4
-    list-ok-requires
     returns-5
     returns-6)

@@ -15,6 +15,8 @@ use Rattle.octets.proofs.BoolLaws.{and-split, and-no, and-yes, or-yes, or-no}
 use Rattle.rules.specs.Checks.{every}
 use Rattle.rules.specs.Profiles as rules
 use Rattle.rules.proofs.EveryLaws.{drop-at, every-at, getD-map-in}
+use Rattle.hash.specs.declared.Hash.the-variants.{Sha1}
+use Rattle.profiles.specs.Rows.{hashOf}
 use Rattle.profiles.specs.declared.Profile.{Profile}
 use Rattle.profiles.specs.Records.{IsProfile, sameText, hasRow}
 
@@ -90,13 +92,14 @@ coded p =
       cipher = padded 32 (p .cipher);
       mode = padded 32 (p .mode);
       hash = padded 32 (p .hash);
+      digest = hashOf (p .number);
       «key_bytes» = p .keyBytes;
       «min_slot_count» = p .minSlotCount;
       «min_checksum_count» = p .minChecksumCount;
     }
 
 coded-is : (p : rules.Profile) → IsProfile (coded p) p
-coded-is p = record { number-is = refl; cipher-is = refl; mode-is = refl; hash-is = refl; key-is = refl; slot-count-is = refl; checksum-count-is = refl }
+coded-is p = record { number-is = refl; cipher-is = refl; mode-is = refl; hash-is = refl; digest-is = refl; key-is = refl; slot-count-is = refl; checksum-count-is = refl }
 
 -- a name that a field of 32 bytes can hold: no zero byte, and room for one behind it
 abbrev nameOk : List ℕ → Bool
@@ -126,7 +129,7 @@ fits-is cipher mode hash L p h =
 -- beyond the table
 abbrev noRow : Profile
 noRow =
-    record { number = 0; cipher = []; mode = []; hash = []; «key_bytes» = 0; «min_slot_count» = 0; «min_checksum_count» = 0 }
+    record { number = 0; cipher = []; mode = []; hash = []; digest = Sha1; «key_bytes» = 0; «min_slot_count» = 0; «min_checksum_count» = 0 }
 
 module _ (rows : List rules.Profile) where
   -- the row at index i, as the code has it
@@ -180,6 +183,10 @@ module _ (rows : List rules.Profile) where
     pub number-none : (i : ℕ) (q : Bool) → length rows ≤ i → rules.known (drop i rows) n ≡ q → false ≡ q
     unfolding rules.known
     number-none i q h e = sym (ap (λ ps. rules.known ps n) (drop-of-length-le rows {i = i} h)) ∙ e
+
+    -- its hash
+    pub digest-found : (i : ℕ) → i < length rows → rowAt i .number ≡ n → rowAt i .digest ≡ hashOf n
+    digest-found i h b = ap (λ (p : Profile). p .digest) (row-is i h) ∙ ap hashOf (sym (number-is i h) ∙ b)
 
     -- the row that the rules find is not passed by
     pub row-found : (i : ℕ) (p : rules.Profile) → i < length rows → rowAt i .number ≡ n → rules.profileAt (drop i rows) n ≡ p → IsProfile (rowAt i) p

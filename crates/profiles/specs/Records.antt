@@ -6,6 +6,7 @@ use Prim.Native.Nat.{ℕ}
 use lib.Dec.{eqb}
 use Rattle.octets.specs.Octets.{padded}
 use Rattle.rules.specs.Profiles as rules
+use Rattle.profiles.specs.Rows.{hashOf}
 use Rattle.profiles.specs.declared.Profile.{Profile}
 
 -- a row of the code's table, whose names are padded as in a header, says what the profile says
@@ -14,6 +15,7 @@ pub record IsProfile (r : Profile) (p : rules.Profile) : Type 0 where
   pub cipher-is : r .cipher ≡ padded 32 (p .cipher)
   pub mode-is : r .mode ≡ padded 32 (p .mode)
   pub hash-is : r .hash ≡ padded 32 (p .hash)
+  pub digest-is : r .digest ≡ hashOf (p .number)
   pub key-is : r .«key_bytes» ≡ p .keyBytes
   pub slot-count-is : r .«min_slot_count» ≡ p .minSlotCount
   pub checksum-count-is : r .«min_checksum_count» ≡ p .minChecksumCount

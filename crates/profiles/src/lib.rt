@@ -1,4 +1,4 @@
-// The table of profiles in code, looked up by number and by a header's fields, and the hash of each profile.
+// The table of profiles in code, looked up by number and by a header's fields.
 use hash::Hash;
 ghost use mathlib.Core.Path.{_≡_};
 ghost use mathlib.Core.Bool.{true};
@@ -7,12 +7,13 @@ ghost use Rattle.rules.specs.Profiles.{numberOf, known, profileAt};
 ghost use Rattle.profiles.specs.Rows.{hashOf, rows};
 ghost use Rattle.profiles.specs.Records.{IsProfile, sameText, hasRow};
 
-// A row of the table of profiles. The names are padded with zeros as in a header.
+// A row of the table of profiles. The names are padded with zeros as in a header; digest is the hash that hash names.
 pub struct Profile {
     pub number: u8,
     pub cipher: [u8; 32],
     pub mode: [u8; 32],
     pub hash: [u8; 32],
+    pub digest: Hash,
     pub key_bytes: u32,
     pub min_slot_count: u32,
     pub min_checksum_count: u32,
@@ -32,6 +33,7 @@ const PROFILES: [Profile; 4] = [
         cipher: AES,
         mode: XTS_PLAIN64,
         hash: SHA1,
+        digest: Hash::Sha1,
         key_bytes: 32,
         min_slot_count: 1000,
         min_checksum_count: 1000,
@@ -41,6 +43,7 @@ const PROFILES: [Profile; 4] = [
         cipher: AES,
         mode: XTS_PLAIN64,
         hash: SHA1,
+        digest: Hash::Sha1,
         key_bytes: 64, // "the same with 64"
         min_slot_count: 1000,
         min_checksum_count: 1000,
@@ -50,6 +53,7 @@ const PROFILES: [Profile; 4] = [
         cipher: AES,
         mode: XTS_PLAIN64,
         hash: SHA256,
+        digest: Hash::Sha256, // "sha256"
         key_bytes: 32,
         min_slot_count: 1000,
         min_checksum_count: 1000,
@@ -59,6 +63,7 @@ const PROFILES: [Profile; 4] = [
         cipher: AES,
         mode: XTS_PLAIN64,
         hash: SHA256,
+        digest: Hash::Sha256,
         key_bytes: 64, // "the same, 64"
         min_slot_count: 1000,
         min_checksum_count: 1000,
@@ -148,13 +153,18 @@ pub fn profile_at(number: u8) -> Profile
     PROFILES[0]
 }
 
-// The hash of the profile with this number.
+// The hash of the profile with this number; SHA-1 where the table has none.
 pub fn hash_of(number: u8) -> Hash
     ensures { λ r. ⌜ r ≡ hashOf number ⌝ }
 {
-    match number {
-        3 => Hash::Sha256,
-        4 => Hash::Sha256,
-        _ => Hash::Sha1,
+    let mut i: usize = 0;
+    while i < PROFILES.len() {
+        let p = PROFILES[i];
+        if p.number == number {
+            let digest = p.digest;
+            return digest;
+        }
+        i += 1;
     }
+    Hash::Sha1
 }

@@ -4,9 +4,9 @@ mod payloads;
 
 use slot_trials::changes;
 use slot_trials::made;
+use trials::after;
 use trials::damage;
 use trials::openings;
-use trials::report;
 use trials::shown;
 
 fn as_it_is(image: &[u8], drive: u64, key: &[u8], wrong: &[u8]) {
@@ -38,7 +38,7 @@ fn damaged_further(image: &mut [u8], drive: u64) {
 
 fn changed(image: &mut [u8], drive: u64, key: &[u8], wrong: &[u8], filler: &[u8], random: &[u8]) {
     changes::revoking_one(image, drive, filler);
-    changes::after_revoking(drive, image, key, filler);
+    after::revoking(drive, image, key, filler);
     shown::shows(
         drive,
         b"screens show slots 1, 4 and 8",
@@ -46,7 +46,7 @@ fn changed(image: &mut [u8], drive: u64, key: &[u8], wrong: &[u8], filler: &[u8]
         &[1, 0, 0, 1, 0, 0, 0, 1],
     );
     changes::adding_one(image, drive, key, wrong, random);
-    changes::after_adding(drive, image, key);
+    after::adding(drive, image, key);
     shown::shows(
         drive,
         b"screens show slots 1, 4, 7 and 8",
@@ -58,9 +58,9 @@ fn changed(image: &mut [u8], drive: u64, key: &[u8], wrong: &[u8], filler: &[u8]
 fn changed_further(image: &mut [u8], drive: u64, key: &[u8], filler: &[u8], random: &[u8]) {
     changes::without_a_list(image, drive, key, filler, random);
     changes::leaving_one(image, drive, filler);
-    changes::after_leaving(drive, image, key);
+    after::leaving(drive, image, key);
     changes::changing_one(image, drive, filler, random);
-    changes::after_changing(drive, image, key);
+    after::changing(drive, image, key);
     shown::shows(
         drive,
         b"screens show slot 3",
@@ -95,8 +95,8 @@ fn tried(image: &mut [u8], drive: u64, key: &[u8], wrong: &[u8], filler: &[u8], 
 fn tried_old(image: &mut [u8], drive: u64, key: &[u8], wrong: &[u8], filler: &[u8], random: &[u8]) {
     as_it_is(image, drive, key, wrong);
     used(image, drive, key, wrong, filler, random);
-    let start = damage::be32_at(image, 104);
-    report::line(drive, b"payload start 65 after all this", start == 65);
+    let start = reports::be32_at(image, 104);
+    reports::line(drive, b"payload start 65 after all this", start == 65);
 }
 
 // Fills the key, the wrong key, the filler and the random stripes; modulo 251 no two units are alike.
@@ -110,7 +110,7 @@ fn fill(key: &mut [u8], wrong: &mut [u8], filler: &mut [u8], random: &mut [u8]) 
 // The file has exactly as many bytes as the image.
 fn loaded(image: &mut [u8], drive: u64, file: &[u8]) {
     let n = testing::load(image, file);
-    report::line(drive, b"is read whole", n == image.len());
+    reports::line(drive, b"is read whole", n == image.len());
 }
 
 // The drive of the profile with this number, in the file, with room for the rest.

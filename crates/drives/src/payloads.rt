@@ -1,6 +1,5 @@
 // The payload of a drive, whose plaintext is known: byte i is 7 i modulo 251.
 use header::PayloadUnit;
-use trials::report;
 
 // Units read into the buffer; their plaintext begins with the byte start.
 fn reads(
@@ -17,7 +16,7 @@ fn reads(
     testing::sequence(expected, start, 7, 251);
     let r = payload::read(image, key, PayloadUnit(first), PayloadUnit(units), buffer);
     let same = octets::equal(buffer, expected);
-    report::line(drive, what, report::number_of(r) == 0 && same);
+    reports::line(drive, what, reports::number_of(r) == 0 && same);
 }
 
 pub fn whole(drive: u64, image: &[u8], key: &[u8]) {
@@ -77,7 +76,7 @@ fn refused(drive: u64, what: &[u8], image: &[u8], key: &[u8], first: u64, units:
         &mut buffer,
     );
     let same = octets::equal(&buffer, &ones);
-    report::line(drive, what, report::number_of(r) == number && same);
+    reports::line(drive, what, reports::number_of(r) == number && same);
 }
 
 // The wrong key has the volume key's length.
@@ -122,11 +121,11 @@ pub fn refusals(drive: u64, image: &[u8], key: &[u8], wrong: &[u8]) {
 
 // The numbers of a read and of a write of unit 5.
 fn read_unit(buffer: &mut [u8], image: &[u8], key: &[u8]) -> u8 {
-    report::number_of(payload::read(image, key, PayloadUnit(5), PayloadUnit(1), buffer))
+    reports::number_of(payload::read(image, key, PayloadUnit(5), PayloadUnit(1), buffer))
 }
 
 fn write_unit(image: &mut [u8], key: &[u8], plaintext: &[u8]) -> u8 {
-    report::number_of(payload::write(image, key, PayloadUnit(5), PayloadUnit(1), plaintext))
+    reports::number_of(payload::write(image, key, PayloadUnit(5), PayloadUnit(1), plaintext))
 }
 
 // Is the plaintext written to unit 5, and read back?
@@ -143,7 +142,7 @@ pub fn writes(image: &mut [u8], drive: u64, key: &[u8]) {
     let read = read_unit(&mut old, image, key);
     let written = holds(image, key, &[0x5A; 512]);
     let restored = holds(image, key, &old);
-    report::line(
+    reports::line(
         drive,
         b"payload unit 5 written, read back, and restored",
         read == 0 && written && restored,

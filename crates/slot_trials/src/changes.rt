@@ -1,25 +1,9 @@
 // Slots revoked, added and changed on the image in memory.
 use crate::listed;
-use trials::damage;
-use trials::openings;
-use trials::report;
 
 fn revokes(image: &mut [u8], drive: u64, what: &[u8], slot: u8, filler: &[u8], number: u8) {
     let right = listed::revokes(image, slot, filler, number);
-    report::slot_line(drive, slot, what, right);
-}
-
-// Is the area that begins at this sector the filler?
-fn area_is(image: &[u8], sector: u32, filler: &[u8]) -> bool {
-    let at = sector as usize * 512;
-    if image.len() < at {
-        return false;
-    }
-    if image.len() - at < filler.len() {
-        return false;
-    }
-    let end = at + filler.len();
-    octets::equal(&image[at..end], filler)
+    reports::slot_line(drive, slot, what, right);
 }
 
 pub fn revoking_one(image: &mut [u8], drive: u64, filler: &[u8]) {
@@ -42,28 +26,6 @@ pub fn revoking_one(image: &mut [u8], drive: u64, filler: &[u8]) {
     revokes(image, drive, b"is revoked", 2, filler, 0);
 }
 
-// Slot 2 was revoked; the field at 296 is its area's start.
-pub fn after_revoking(drive: u64, image: &[u8], key: &[u8], filler: &[u8]) {
-    let filled = area_is(image, damage::be32_at(image, 296), filler);
-    report::slot_line(drive, 2, b"holds the filler", filled);
-    openings::refused_by_number(
-        drive,
-        b"is disabled (15)",
-        image,
-        2,
-        b"second passphrase",
-        15,
-    );
-    openings::refused_by_search(
-        drive,
-        b"search refuses slot 2's passphrase (17)",
-        image,
-        b"second passphrase",
-        17,
-    );
-    openings::opens(drive, image, 1, b"first passphrase", key);
-}
-
 // Adds a passphrase of ours, with a count of 1,000.
 fn adds(
     image: &mut [u8],
@@ -75,7 +37,7 @@ fn adds(
     number: u8,
 ) {
     let right = listed::adds(image, slot, key, random, number);
-    report::slot_line(drive, slot, what, right);
+    reports::slot_line(drive, slot, what, right);
 }
 
 // Slot 7, whose record lies across a sector's edge, is added; the wrong key has the volume key's length.
@@ -110,11 +72,6 @@ pub fn adding_one(image: &mut [u8], drive: u64, key: &[u8], wrong: &[u8], random
     adds(image, drive, b"is added", 7, key, random, 0);
 }
 
-pub fn after_adding(drive: u64, image: &[u8], key: &[u8]) {
-    openings::opens(drive, image, 7, b"a new passphrase", key);
-    openings::opens(drive, image, 1, b"first passphrase", key);
-}
-
 // All slots of cryptsetup's are revoked: slot 7 of ours is left, and stays.
 pub fn leaving_one(image: &mut [u8], drive: u64, filler: &[u8]) {
     revokes(image, drive, b"is revoked", 1, filler, 0);
@@ -130,17 +87,6 @@ pub fn leaving_one(image: &mut [u8], drive: u64, filler: &[u8]) {
     );
 }
 
-pub fn after_leaving(drive: u64, image: &[u8], key: &[u8]) {
-    openings::refused_by_search(
-        drive,
-        b"search refuses slot 8's passphrase (17)",
-        image,
-        b"8",
-        17,
-    );
-    openings::opens(drive, image, 7, b"a new passphrase", key);
-}
-
 // Changes the passphrase of slot 7 to a new one in the slot, with a count of 1,000.
 fn changes_seven(
     image: &mut [u8],
@@ -153,18 +99,18 @@ fn changes_seven(
     number: u8,
 ) {
     let right = listed::changes_seven(image, old, to, filler, random, number);
-    report::slot_line(drive, 7, what, right);
+    reports::slot_line(drive, 7, what, right);
 }
 
 // The calls without a list: slots 2 and 7 are as above.
 pub fn without_a_list(image: &mut [u8], drive: u64, key: &[u8], filler: &[u8], random: &[u8]) {
     let mut none = [0u8; 0];
     let revoked = listed::revoked(image, 8, filler, &mut none, 20);
-    report::slot_line(drive, 8, b"is not revoked without a list (20)", revoked);
+    reports::slot_line(drive, 8, b"is not revoked without a list (20)", revoked);
     let added = listed::added(image, 2, key, random, &mut none, 20);
-    report::slot_line(drive, 2, b"is not added without a list (20)", added);
+    reports::slot_line(drive, 2, b"is not added without a list (20)", added);
     let changed = listed::changed(image, b"a new passphrase", 2, filler, random, &mut none, 20);
-    report::slot_line(drive, 7, b"is not changed without a list (20)", changed);
+    reports::slot_line(drive, 7, b"is not changed without a list (20)", changed);
 }
 
 // Slot 7, the only one left, is changed to slot 3.
@@ -200,23 +146,4 @@ pub fn changing_one(image: &mut [u8], drive: u64, filler: &[u8], random: &[u8]) 
         random,
         0,
     );
-}
-
-pub fn after_changing(drive: u64, image: &[u8], key: &[u8]) {
-    openings::refused_by_number(
-        drive,
-        b"is disabled (15)",
-        image,
-        7,
-        b"a new passphrase",
-        15,
-    );
-    openings::refused_by_search(
-        drive,
-        b"search refuses slot 7's passphrase (17)",
-        image,
-        b"a new passphrase",
-        17,
-    );
-    openings::opens(drive, image, 3, b"a newer passphrase", key);
 }

@@ -1,7 +1,5 @@
 // Calls that give a list of sector writes, with a buffer of its length: 15 stripes of 32 bytes, or 4,000 of 32 or of 64.
 use crate::made;
-use trials::damage;
-use trials::report;
 
 // Is entry i of the list, from 0, this sector of the image?
 fn entry_is(image: &[u8], list: &[u8], i: usize, sector: usize) -> bool {
@@ -16,7 +14,7 @@ fn entry_is(image: &[u8], list: &[u8], i: usize, sector: usize) -> bool {
     let end = at + 516;
     let from = sector * 512;
     let to = from + 512;
-    damage::be32_at(list, at) as usize == sector
+    reports::be32_at(list, at) as usize == sector
         && octets::equal(&list[body..end], &image[from..to])
 }
 
@@ -41,7 +39,7 @@ fn entries_are(image: &[u8], list: &[u8], first: usize, start: u32) -> bool {
 
 // The start of a slot's area, as its record has it.
 fn start_of(image: &[u8], slot: u8) -> u32 {
-    damage::be32_at(image, 200 + slot as usize * 48)
+    reports::be32_at(image, 200 + slot as usize * 48)
 }
 
 // Is the number the one that is expected, and does the list, where it is 0, have the slot's sectors as they are now?
@@ -53,7 +51,7 @@ fn is_right(image: &[u8], slot: u8, list: &[u8], first: usize, r: u8, number: u8
 }
 
 pub fn revoked(image: &mut [u8], slot: u8, filler: &[u8], list: &mut [u8], number: u8) -> bool {
-    let r = report::number_of(revoking::revoke(image, slot, filler, list));
+    let r = reports::number_of(revoking::revoke(image, slot, filler, list));
     is_right(image, slot, list, 0, r, number)
 }
 
@@ -67,7 +65,7 @@ pub fn added(
     number: u8,
 ) -> bool {
     let salt = [0x73u8; 32];
-    let r = report::number_of(adding::add(
+    let r = reports::number_of(adding::add(
         image,
         slot,
         key,
@@ -91,7 +89,7 @@ pub fn changed(
     number: u8,
 ) -> bool {
     let salt = [0x6bu8; 32];
-    let r = report::number_of(changing::change(
+    let r = reports::number_of(changing::change(
         image,
         7,
         old,

@@ -1,18 +1,6 @@
 // Damaged copies: every call gives the header check's number, whatever else it is handed.
-use crate::report;
 use crate::shown;
 use header::PayloadUnit;
-
-// The four bytes at an index, as one number.
-pub fn be32_at(image: &[u8], at: usize) -> u32 {
-    if image.len() < 4 {
-        return 0;
-    }
-    if image.len() - 4 < at {
-        return 0;
-    }
-    octets::be32_at(image, at)
-}
 
 fn put_be32(image: &mut [u8], at: usize, value: u32) {
     if image.len() < 4 {
@@ -37,22 +25,22 @@ fn openings_refuse(image: &[u8], number: u8) -> bool {
 // The numbers of calls on nothing.
 fn read_none(image: &[u8]) -> u8 {
     let mut none = [0u8; 0];
-    report::number_of(payload::read(image, b"", PayloadUnit(0), PayloadUnit(0), &mut none))
+    reports::number_of(payload::read(image, b"", PayloadUnit(0), PayloadUnit(0), &mut none))
 }
 
 fn write_none(image: &mut [u8]) -> u8 {
-    report::number_of(payload::write(image, b"", PayloadUnit(0), PayloadUnit(0), b""))
+    reports::number_of(payload::write(image, b"", PayloadUnit(0), PayloadUnit(0), b""))
 }
 
 fn add_none(image: &mut [u8]) -> u8 {
     let salt = [0u8; 32];
     let mut none = [0u8; 0];
-    report::number_of(adding::add(image, 3, b"", b"", &salt, 0, b"", &mut none))
+    reports::number_of(adding::add(image, 3, b"", b"", &salt, 0, b"", &mut none))
 }
 
 fn revoke_none(image: &mut [u8]) -> u8 {
     let mut none = [0u8; 0];
-    report::number_of(revoking::revoke(image, 1, b"", &mut none))
+    reports::number_of(revoking::revoke(image, 1, b"", &mut none))
 }
 
 fn changes_refuse(image: &mut [u8], number: u8) -> bool {
@@ -65,26 +53,26 @@ fn changes_refuse(image: &mut [u8], number: u8) -> bool {
 
 // All calls on the image with the four bytes at index at changed; then they are put back.
 fn damaged(image: &mut [u8], drive: u64, what: &[u8], at: usize, value: u32, number: u8) {
-    let kept = be32_at(image, at);
+    let kept = reports::be32_at(image, at);
     put_be32(image, at, value);
     let opened = openings_refuse(image, number);
     let screened = shown::screens_are(image, number, &[0u8; 8]);
     let changed = changes_refuse(image, number);
     put_be32(image, at, kept);
-    report::line(drive, what, opened && screened && changed);
+    reports::line(drive, what, opened && screened && changed);
 }
 
 // All calls on the image's first len bytes.
 fn cut(image: &mut [u8], drive: u64, what: &[u8], len: usize, number: u8) {
     if image.len() < len {
-        report::line(drive, what, false);
+        reports::line(drive, what, false);
         return;
     }
     let at: usize = 0;
     let opened = openings_refuse(&image[at..len], number);
     let screened = shown::screens_are(&image[at..len], number, &[0u8; 8]);
     let changed = changes_refuse(&mut image[at..len], number);
-    report::line(drive, what, opened && screened && changed);
+    reports::line(drive, what, opened && screened && changed);
 }
 
 pub fn start_of_header(image: &mut [u8], drive: u64) {

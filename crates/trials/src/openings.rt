@@ -1,5 +1,4 @@
 // Openings, by number and by search, held to the known volume key.
-use crate::report;
 use opening::Opened;
 
 fn same_key(a: &[u8; 64], b: &[u8; 64]) -> bool {
@@ -35,12 +34,12 @@ fn refuses(o: Opened, number: u8) -> bool {
 
 fn opens_by_number(drive: u64, image: &[u8], slot: u8, passphrase: &[u8], key: &[u8]) {
     let o = opening::open_slot(image, slot, passphrase);
-    report::slot_line(drive, slot, b"opens by number", gives(o, slot, key));
+    reports::slot_line(drive, slot, b"opens by number", gives(o, slot, key));
 }
 
 fn opens_by_search(drive: u64, image: &[u8], slot: u8, passphrase: &[u8], key: &[u8]) {
     let o = opening::open(image, passphrase);
-    report::slot_line(drive, slot, b"opens by search", gives(o, slot, key));
+    reports::slot_line(drive, slot, b"opens by search", gives(o, slot, key));
 }
 
 pub fn refused_by_number(
@@ -52,12 +51,12 @@ pub fn refused_by_number(
     number: u8,
 ) {
     let o = opening::open_slot(image, slot, passphrase);
-    report::slot_line(drive, slot, what, refuses(o, number));
+    reports::slot_line(drive, slot, what, refuses(o, number));
 }
 
 pub fn refused_by_search(drive: u64, what: &[u8], image: &[u8], passphrase: &[u8], number: u8) {
     let o = opening::open(image, passphrase);
-    report::line(drive, what, refuses(o, number));
+    reports::line(drive, what, refuses(o, number));
 }
 
 // By number and by search.

@@ -1,6 +1,4 @@
 // The two screens of a drive: which slots are enabled, and the records' numbers beside it; zeros beside a refusal's number.
-use crate::damage;
-use crate::report;
 use screens::Entry;
 
 // A number of the record of the slot at index i, counted from 0, where the header is accepted.
@@ -14,7 +12,7 @@ fn field(image: &[u8], number: u8, i: usize, at: usize) -> u32 {
     if 48 <= at {
         return 0;
     }
-    damage::be32_at(image, 208 + i * 48 + at)
+    reports::be32_at(image, 208 + i * 48 + at)
 }
 
 fn entry_is(image: &[u8], number: u8, i: usize, entry: Entry) -> bool {
@@ -55,5 +53,5 @@ pub fn screens_are(image: &[u8], number: u8, enabled: &[u8; 8]) -> bool {
 
 pub fn shows(drive: u64, what: &[u8], image: &[u8], enabled: &[u8; 8]) {
     let ok = screens_are(image, 0, enabled);
-    report::line(drive, what, ok);
+    reports::line(drive, what, ok);
 }

@@ -42,3 +42,14 @@ pub fn slot_line(drive: u64, slot: u8, what: &[u8], ok: bool) {
     io::write_all(STDOUT_FILENO, b" ");
     testing::line(what, ok);
 }
+
+// The four bytes at an index, as one number.
+pub fn be32_at(image: &[u8], at: usize) -> u32 {
+    if image.len() < 4 {
+        return 0;
+    }
+    if image.len() - 4 < at {
+        return 0;
+    }
+    octets::be32_at(image, at)
+}

@@ -184,10 +184,6 @@ module _ (rows : List rules.Profile) where
     unfolding rules.known
     number-none i q h e = sym (ap (λ ps. rules.known ps n) (drop-of-length-le rows {i = i} h)) ∙ e
 
-    -- its hash
-    pub digest-found : (i : ℕ) → i < length rows → rowAt i .number ≡ n → rowAt i .digest ≡ hashOf n
-    digest-found i h b = ap (λ (p : Profile). p .digest) (row-is i h) ∙ ap hashOf (sym (number-is i h) ∙ b)
-
     -- the row that the rules find is not passed by
     pub row-found : (i : ℕ) (p : rules.Profile) → i < length rows → rowAt i .number ≡ n → rules.profileAt (drop i rows) n ≡ p → IsProfile (rowAt i) p
     unfolding rules.profileAt

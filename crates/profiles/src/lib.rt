@@ -157,14 +157,10 @@ pub fn profile_at(number: u8) -> Profile
 pub fn hash_of(number: u8) -> Hash
     ensures { λ r. ⌜ r ≡ hashOf number ⌝ }
 {
-    let mut i: usize = 0;
-    while i < PROFILES.len() {
-        let p = PROFILES[i];
-        if p.number == number {
-            let digest = p.digest;
-            return digest;
-        }
-        i += 1;
+    if !is_known(number) {
+        return Hash::Sha1;
     }
-    Hash::Sha1
+    let p = profile_at(number);
+    let digest = p.digest;
+    digest
 }

@@ -1,17 +1,14 @@
 -- `profiles::hash_of` meets its contract.
-use mathlib.Core.Path.{_≡_, refl, sym, ap, _∙_}
-use mathlib.Core.Bool.{false}
-use Prim.Native.Nat.{ℕ, _-_, _≤_}
-use native.Mathlib.Omega.{arith}
-use lib.ListN.{length, drop}
+use mathlib.Core.Path.{_≡_, sym, ap, _∙_}
+use mathlib.Core.Bool.{true, false}
+use Prim.Native.Nat.{ℕ}
 use borrow.Author.Tests.{ne-eqb}
 use borrow.Author.Needs.{needs}
-use Rattle.octets.specs.Octets.{zeros}
-use Rattle.octets.proofs.BoolLaws.{no}
+use Rattle.octets.proofs.BoolLaws.{no, holds, fails}
 use Rattle.hash.specs.declared.Hash.the-variants.{Sha1}
 use Rattle.rules.specs.Profiles.{known}
-use Rattle.profiles.specs.Rows.{nameOf, hashOf, aesXtsRow, rows}
-use Rattle.profiles.proofs.RowLaws.{number-next, number-none, digest-found}
+use Rattle.rules.proofs.RowLaws.{number-at}
+use Rattle.profiles.specs.Rows.{hashOf, aesXtsRow, rows}
 use Rattle.profiles.proofs.hash_of.Statement.{statement}
 use Rattle.profiles.proofs.hash_of.Tie as tie
 
@@ -20,52 +17,17 @@ unknown : (n : ℕ) → known rows n ≡ false → Sha1 ≡ hashOf n
 unfolding known hashOf aesXtsRow rows
 unknown n e = rw (ne-eqb n 3 (λ p. no (sym e ∙ ap (known rows) p)), ne-eqb n 4 (λ p. no (sym e ∙ ap (known rows) p)))
 
-abbrev Inv-loop : tie.InvT-loop
-Inv-loop number i₀ i = (i ≤ length rows) × (known (drop i rows) number ≡ known rows number)
+returns : tie.Need-returns
+returns c = unknown _ (fails (c .before .is-known .ensures) (c .if1 .taken))
 
-abbrev μ-loop : tie.MeasureT-loop
-μ-loop number i₀ i = length rows - i
+has-row : (c : tie.Else1) → known rows (c .before .before .args .number) ≡ true
+has-row c = holds (c .before .is-known .ensures) (c .if1 .left)
 
-loop-holds : tie.Need-loop-holds Inv-loop μ-loop
-unfolding rows
-loop-holds c = (omega arith, refl)
+profile-at-requires : tie.Need-profile-at-requires
+profile-at-requires c κs = has-row c
 
-returns : tie.Need-returns Inv-loop μ-loop
-unfolding zeros nameOf hashOf aesXtsRow rows
-returns c =
-    let l = c .before .before .before .before .loop in
-    let n = c .before .before .before .before .before .args .number in
-    digest-found rows n (l .i) (omega arith) (c .if1 .taken)
-
-loop-less : tie.Need-loop-less Inv-loop μ-loop
-unfolding rows
-loop-less c = search needs
-
-loop-again : tie.Need-loop-again Inv-loop μ-loop
-unfolding zeros nameOf hashOf aesXtsRow rows
-loop-again c =
-    let l = c .before .before .before .before .loop in
-    let n = c .before .before .before .before .before .args .number in
-    (omega arith, number-next rows n (l .i) (known rows n) (omega arith) (c .if1 .left) (l .inv .1))
-
-returns-2 : tie.Need-returns-2 Inv-loop μ-loop
-unfolding rows
-returns-2 c =
-    let l = c .before .loop in
-    let n = c .before .before .args .number in
-    unknown n (sym (number-none rows n (l .i) (known rows n) (omega arith) (l .inv .1)))
+returns-2 : tie.Need-returns-2
+returns-2 c = c .profile-at .ensures .digest-is ∙ ap hashOf (number-at rows (c .before .before .before .args .number) (has-row (c .before)))
 
 pub hash-of-spec : {M : Type 1} → statement M
-hash-of-spec =
-    tie.close
-    (tie.spec
-    Inv-loop
-    μ-loop
-    loop-holds
-    (λ mul-p. search needs)
-    (λ array-copy-out-p. search needs)
-    returns
-    (λ add-i. search needs)
-    loop-less
-    loop-again
-    returns-2)
+hash-of-spec = tie.close (tie.spec (λ is-known-requires κs. search needs) returns profile-at-requires returns-2)

@@ -148,7 +148,7 @@ fn next_constant(constant: u8, nk: usize, i: usize) -> u8
     constant
 }
 
-// What KEYEXPANSION (5.2) adds to word i - nk, t being word i - 1.
+// What KEYEXPANSION (5.2) adds to word i - nk, t being word i - 1 and constant the first byte of the round constant.
 fn temp_word(t: u32, nk: usize, i: usize, constant: u8) -> u32
     requires { ⌜ (4 ≤ nk) × (constant ≡ rcon (i / nk - 1)) ⌝ }
     ensures { λ r. ⌜ be32 r ≡ temp nk i (be32 t) ⌝ }

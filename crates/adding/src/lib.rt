@@ -1,4 +1,6 @@
 // Add: the master key is split into a slot's area and enciphered there, and the slot's record enabled.
+#![tactic(auto)]
+
 ghost use Rattle.std.specs.Prelude.{◌≡◌, List, ℕ};
 ghost use Rattle.rules.specs.Checks.{first};
 ghost use Rattle.rules.specs.Facts.{slot_input};

@@ -1,6 +1,8 @@
 // The S-box of AES and its inverse as Boolean circuits (Boyar and Peralta 2010), on 32 bytes at a time: word i of eight has bit i of
 // each byte. The two share what lies between their linear layers, the inversion. The gates of a layer stand in an order that keeps
 // few values alive.
+#![tactic(auto)]
+
 ghost use Rattle.std.specs.Prelude.{◌≡◌};
 ghost use Rattle.bitslice.specs.Circuit.{first_inputs_of, second_inputs_of, norm_of, inversion_of, products_of, outputs_of};
 ghost use Rattle.bitslice.specs.Circuit.{inv_first_inputs_of, inv_second_inputs_of, inv_outputs_of, constant_of, sbox_of, inv_sbox_of};

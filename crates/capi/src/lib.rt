@@ -1,5 +1,7 @@
 // The calls for C: each wraps one call and has its contract. host/include/mivrozh.h declares them. What a call answers is laid in its last arguments
 // by the functions of `laying`, how many values of HMAC it made in the last one (02, Wish 6).
+#![tactic(auto)]
+
 ghost use Rattle.rules.specs.Facts.{slot_input};
 ghost use Rattle.rules.specs.Calls.{add, change, revoke, open_slot, open_any, read, write};
 ghost use Rattle.rules.specs.Format.{format_input};

@@ -1,4 +1,6 @@
 // Change: a slot is opened with its passphrase, its key added to a second slot under a new one, and the first revoked.
+#![tactic(auto)]
+
 ghost use Rattle.std.specs.Prelude.{◌≡◌, List, true, ◌&&◌, not, ℕ, ◌+◌, ◌^◌, ◌<◌};
 ghost use Rattle.rules.specs.Checks.{first};
 ghost use Rattle.rules.specs.Facts.{slot_of, is_enabled, slot_input};

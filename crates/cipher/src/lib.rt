@@ -1,5 +1,7 @@
 // AES (FIPS 197) for keys of 16 and 32 bytes, 32 blocks at a time and with no table: no index and no branch comes from a key or from data.
 // The blocks are 128 words: word 4 b + c is column c of block b, its first row in the lowest byte. The rounds work on bit planes.
+#![tactic(auto)]
+
 ghost use Rattle.std.specs.Prelude.{◌≡◌, List, ℕ, ◌+◌, ◌-◌, ◌*◌, ◌/◌, ◌%◌, ◌<◌, ◌≤◌, length, take, drop};
 ghost use Rattle.octets.specs.Octets.{be32, xors};
 ghost use Rattle.octets.specs.Splice.{part, splice};

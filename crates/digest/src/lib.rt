@@ -1,4 +1,6 @@
 // What the hash functions share in code: the words of a block, and the bytes of words.
+#![tactic(auto)]
+
 ghost use Rattle.std.specs.Prelude.{◌≡◌, length};
 ghost use Rattle.digest.specs.Chaining.{digest, words};
 

@@ -1,5 +1,7 @@
 // Drives made by cryptsetup, opened, read, damaged and changed in memory: one line for each thing tried, and ok or FAILED.
 // tools/make_drives.sh made them. And one that format made before Wish 4, whose payload begins right after its areas.
+#![tactic(auto)]
+
 mod payloads;
 
 use slot_trials::{changes, made};

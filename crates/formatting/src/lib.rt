@@ -1,5 +1,7 @@
 // Format: the checks in order, then everything before the payload cleared and the header written. An accepted format makes the values of
 // HMAC of one checksum.
+#![tactic(auto)]
+
 mod checks;
 mod fields;
 
@@ -15,7 +17,7 @@ ghost use Rattle.header.specs.Refusals.{number};
 use header::Outcome;
 
 // The header of a new drive, and how many values of HMAC were made for it.
-#[derive(Drop)]
+#[derive(Clone, Copy)]
 struct NewHeader {
     bytes: [u8; 592],
     made: u64,

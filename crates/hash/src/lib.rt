@@ -1,10 +1,12 @@
 // The hash functions by name: SHA-1 and SHA-256 (FIPS 180-4). One code for both, over chaining words in an array of eight, of which a
 // hash with fewer uses the first. Only the compression functions differ.
+#![tactic(auto)]
+
 ghost use Rattle.std.specs.Prelude.{◌≡◌, ◌++◌, ◌+◌, ◌/◌, ◌%◌, ◌^◌, ◌≤◌, ◌<◌, length, take};
 ghost use Rattle.digest.specs.Chaining.{compress_block, blocks, finish};
 ghost use Rattle.hash.specs.Hash.{compression_of, digest_of, chain};
 
-#[derive(Drop)]
+#[derive(Clone, Copy)]
 pub enum Hash {
     Sha1,
     Sha256,

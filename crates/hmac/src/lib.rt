@@ -1,4 +1,6 @@
 // HMAC (RFC 2104) with any of the hashes, with the chaining words after the two key blocks computed once for a key.
+#![tactic(auto)]
+
 ghost use Rattle.std.specs.Prelude.{◌≡◌, ◌+◌, ◌≤◌, ◌<◌, ◌^◌, length, take, replicate};
 ghost use Rattle.octets.specs.Octets.{xors, padded};
 ghost use Rattle.digest.specs.Chaining.{compress_block};
@@ -9,7 +11,7 @@ ghost use Rattle.hmac.specs.Keyed.{keyed, finish_keyed};
 use hash::Hash;
 
 // The chaining words after the inner and the outer key block.
-#[derive(Drop)]
+#[derive(Clone, Copy)]
 pub struct Keyed {
     pub inner: [u32; 8],
     pub outer: [u32; 8],

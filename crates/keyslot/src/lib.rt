@@ -1,4 +1,6 @@
 // A key slot's area: filling it, and its candidate (LUKS 1.2.2, sections 4.2 and 4.3). Each returns how many values of HMAC it made.
+#![tactic(auto)]
+
 ghost use Rattle.std.specs.Prelude.{◌≡◌, false, List, ℕ, ◌+◌, ◌-◌, ◌*◌, ◌%◌, ◌≤◌, ◌<◌, ◌^◌, length, take};
 ghost use Rattle.hash.specs.Hash.{digest_of};
 ghost use Rattle.pbkdf2.specs.Pbkdf2.{pbkdf2, values_made};
@@ -14,7 +16,7 @@ use hash::Hash;
 use xts::Keys;
 
 // The key that a passphrase gives, at the front of the bytes, and how many values of HMAC were made for it.
-#[derive(Drop)]
+#[derive(Clone, Copy)]
 struct Derived {
     key: [u8; 64],
     made: u64,

@@ -2,6 +2,8 @@
 // for the four lanes, so that the compiler makes one vector operation of it. x86-64 has no rotation of vectors in its base set, and
 // a rotation that the compiler recognizes among other operations keeps it from using vectors there. So the halves of ROTL^5(a) are
 // added one after the other, those of ROTL^30(b) are joined one round later, and a word of the schedule is rotated one round later.
+#![tactic(auto)]
+
 ghost use Rattle.std.specs.Prelude.{◌≡◌, ◌+◌, ◌*◌, ◌/◌, ◌%◌, ◌^◌, ◌<◌, ◌≤◌, length, take, bit_or, bit_xor, slice_index, slice_index_or};
 ghost use Rattle.octets.specs.Octets.{xors};
 ghost use Rattle.digest.specs.Chaining.{◌⊞◌, ch, maj, schedule};

@@ -1,4 +1,6 @@
 // Answers as C has them: the number is returned, and all else is laid in what the caller lends. `capi` has the calls.
+#![tactic(auto)]
+
 ghost use Rattle.std.specs.Prelude.{◌≡◌, ◌∷◌, map, length};
 ghost use Rattle.header.specs.Refusals.{number};
 

@@ -1,6 +1,8 @@
 // MIXCOLUMNS and INVMIXCOLUMNS of AES on bit planes, for 32 blocks at a time: word 16 i + 4 r + c has bit i of the bytes in row r and column c.
 // A column's planes go from bit 7 down, each stored as soon as the planes that it needs are read: few words are at hand at a time. A column's function
 // has one caller and is inlined there, and the loop over the columns then runs on vectors.
+#![tactic(auto)]
+
 ghost use Rattle.std.specs.Prelude.{◌≡◌, ◌+◌, ◌<◌, length};
 ghost use Rattle.aes.specs.Aes.{mix_columns, inv_mix_columns};
 ghost use Rattle.aes.specs.Planes.{Each, premix};

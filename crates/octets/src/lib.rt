@@ -1,4 +1,6 @@
 // Byte strings in place: copy, clear, exclusive or, comparison, and numbers in bytes.
+#![tactic(auto)]
+
 ghost use Rattle.std.specs.Prelude.{◌≡◌, ◌+◌, ◌≤◌, min, length};
 ghost use Rattle.octets.specs.Octets.{big_endian, be32_of, be32_at, xors, zeros, same, be32};
 ghost use Rattle.octets.specs.Splice.{splice};

@@ -1,4 +1,6 @@
 // Opening a drive, by a slot's number and without one.
+#![tactic(auto)]
+
 ghost use Rattle.std.specs.Prelude.{◌≡◌, true};
 ghost use Rattle.rules.specs.Checks.{first};
 ghost use Rattle.rules.specs.Calls.{open_slot, open_any, passphrase_ok, early_checks};
@@ -12,7 +14,7 @@ use header::Refusal;
 
 // What an opening returns. The key is followed by zeros; where the opening is refused, slot, length and key are zero. Last, how many values
 // of HMAC it made.
-#[derive(Drop)]
+#[derive(Clone, Copy)]
 pub struct Opened {
     pub refusal: Refusal,
     pub slot: u8,
@@ -22,14 +24,14 @@ pub struct Opened {
 }
 
 // The first slot that opens, counted from 1, or none.
-#[derive(Drop)]
+#[derive(Clone, Copy)]
 pub enum Found {
     At(u8),
     Nothing,
 }
 
 // What a search finds, and how many values of HMAC it made; the key counts where a slot was found.
-#[derive(Drop)]
+#[derive(Clone, Copy)]
 pub struct Search {
     pub found: Found,
     pub key: [u8; 64],

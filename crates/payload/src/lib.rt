@@ -1,4 +1,6 @@
 // Read and write: units of the payload, in the clear in the caller's buffer and enciphered in the image.
+#![tactic(auto)]
+
 ghost use Rattle.std.specs.Prelude.{◌≡◌, ◌+◌, ◌*◌, ◌/◌, ◌<◌, ◌^◌, eqb, leb, length};
 ghost use Rattle.rules.specs.Checks.{first};
 ghost use Rattle.rules.specs.Calls.{read, write, range_checks, bytes_read};

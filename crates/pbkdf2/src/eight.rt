@@ -40,7 +40,7 @@ fn xor_words(a: [u32; 8], b: [u32; 8]) -> [u32; 8]
 }
 
 // The exclusive or of values, and how many of them were made.
-#[derive(Drop)]
+#[derive(Clone, Copy)]
 pub struct Sum {
     pub words: [u32; 8],
     pub made: u64,

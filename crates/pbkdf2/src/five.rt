@@ -37,7 +37,7 @@ fn xor_words(a: [u32; 5], b: [u32; 5]) -> [u32; 5]
 }
 
 // The exclusive or of values, and how many of them were made.
-#[derive(Drop)]
+#[derive(Clone, Copy)]
 pub struct Sum {
     pub words: [u32; 5],
     pub made: u64,

@@ -1,5 +1,7 @@
 // PBKDF2-HMAC (RFC 8018) with any of the hashes, two compressions for a value of HMAC. With SHA-1 the blocks of the derived key are made by
 // fours, side by side, and what is left of them one by one. The values of HMAC are counted where they are made (02, Wish 6).
+#![tactic(auto)]
+
 mod eight;
 mod five;
 
@@ -17,21 +19,21 @@ use crate::eight::Sum;
 use hash::Hash;
 
 // A block of the derived key, at the front of the bytes, and how many values of HMAC were made for it.
-#[derive(Drop)]
+#[derive(Clone, Copy)]
 struct OneBlock {
     bytes: [u8; 32],
     made: u64,
 }
 
 // Four blocks of the derived key, and how many values of HMAC were made for them.
-#[derive(Drop)]
+#[derive(Clone, Copy)]
 struct FourBlocks {
     bytes: [u8; 80],
     made: u64,
 }
 
 // How many blocks of the derived key stand in it, and how many values of HMAC were made for them.
-#[derive(Drop)]
+#[derive(Clone, Copy)]
 struct Progress {
     blocks: usize,
     made: u64,

@@ -1,5 +1,7 @@
 // The steps of AES (FIPS 197) on bit planes, for 32 blocks at a time: bit j of word 16 i + 4 r + c is bit i of the byte in row r and
 // column c of the block in lane j. The words 16 i + 4 r to 16 i + 4 r + 3 are row 4 i + r. MIXCOLUMNS is in the crate mixing.
+#![tactic(auto)]
+
 ghost use Rattle.std.specs.Prelude.{◌≡◌, ℕ, ◌<◌, length};
 ghost use Rattle.octets.specs.Octets.{xors};
 ghost use Rattle.aes.specs.Aes.{sub_bytes, inv_sub_bytes, shift_rows, inv_shift_rows};

@@ -1,4 +1,6 @@
 // The table of profiles in code, looked up by number and by a header's fields.
+#![tactic(auto)]
+
 ghost use Rattle.std.specs.Prelude.{◌≡◌, true, length};
 ghost use Rattle.rules.specs.Profiles.{number_of, known, profile_at};
 ghost use Rattle.profiles.specs.Rows.{hash_of, rows};
@@ -7,7 +9,7 @@ ghost use Rattle.profiles.specs.Records.{IsProfile, same_text, has_row};
 use hash::Hash;
 
 // A row of the table of profiles. The names are padded with zeros as in a header; digest is the hash that hash names.
-#[derive(Drop)]
+#[derive(Clone, Copy)]
 pub struct Profile {
     pub number: u8,
     pub cipher: [u8; 32],

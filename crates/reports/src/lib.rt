@@ -1,4 +1,6 @@
 // One line for each thing found: the drive, by the number of its profile (0 for the one with the old start), what was tried, and ok or FAILED.
+#![tactic(auto)]
+
 use header::Outcome;
 use libc::STDOUT_FILENO;
 

@@ -1,4 +1,6 @@
 // Revoke: a slot's area is filled with the caller's filler and its record disabled.
+#![tactic(auto)]
+
 ghost use Rattle.std.specs.Prelude.{◌≡◌, ◌-◌, ◌≤◌, ◌<◌, length, take, drop};
 ghost use Rattle.rules.specs.Checks.{first};
 ghost use Rattle.rules.specs.Calls.{revoke, early_checks, any_enabled, other_enabled};

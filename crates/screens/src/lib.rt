@@ -1,4 +1,6 @@
 // The two screens of a drive's key slots: which are enabled, and for service people also their counts, area starts and stripes.
+#![tactic(auto)]
+
 ghost use Rattle.std.specs.Prelude.{◌≡◌, map, ◌+◌, ◌≤◌, ◌<◌, length, replicate};
 ghost use Rattle.rules.specs.Facts.{slot_of};
 ghost use Rattle.profiles.specs.Suites.{built};
@@ -10,14 +12,14 @@ ghost use Rattle.screens.specs.Entries.{details_in};
 use header::{ImageSector, Refusal};
 
 // The first screen: 1 for an enabled slot and 0 for a disabled one; zeros where the header is refused.
-#[derive(Drop)]
+#[derive(Clone, Copy)]
 pub struct SlotScreen {
     pub refusal: Refusal,
     pub enabled: [u8; 8],
 }
 
 // What the second screen shows of a slot.
-#[derive(Drop)]
+#[derive(Clone, Copy)]
 pub struct Entry {
     pub enabled: u8,
     pub count: u32,
@@ -26,7 +28,7 @@ pub struct Entry {
 }
 
 // The second screen: the eight slots; zeros where the header is refused.
-#[derive(Drop)]
+#[derive(Clone, Copy)]
 pub struct DetailScreen {
     pub refusal: Refusal,
     pub entries: [Entry; 8],

@@ -1,4 +1,6 @@
 // The list of sector writes that add, change and revoke give: how long it is, and its entries in the lent buffer.
+#![tactic(auto)]
+
 ghost use Rattle.std.specs.Prelude.{◌≡◌, true, ◌+◌, ◌*◌, ◌≤◌, ◌<◌, length};
 ghost use Rattle.octets.specs.Splice.{splice};
 ghost use Rattle.rules.specs.Sectors.{sectors_from, encoded, entry_bytes, slot_count};
@@ -14,7 +16,7 @@ const SECTOR: usize = 512;
 const ENTRY: usize = 516;
 
 // The sectors that hold an area's n × L bytes: the first, how many, and the payload's start, which they do not pass.
-#[derive(Drop)]
+#[derive(Clone, Copy)]
 pub struct Area {
     pub start: ImageSector,
     pub sectors: u32,

@@ -1,4 +1,6 @@
 // SHA-256's compression function (FIPS 180-4). The chaining words are an array by value, handed from block to block.
+#![tactic(auto)]
+
 ghost use Rattle.std.specs.Prelude.{◌≡◌, ◌+◌, ◌%◌, ◌<◌, slice_index};
 ghost use Rattle.digest.specs.Chaining.{◌⊞◌, ch, maj, schedule};
 ghost use Rattle.digest.specs.Turns.{turns};

@@ -1,5 +1,7 @@
 // The slots' work below the calls: a key's checksum tested, a slot tried with a passphrase, a slot enabled and disabled. What derives says
 // how many values of HMAC it made; the bounds let a caller add these numbers up in 64 bits.
+#![tactic(auto)]
+
 ghost use Rattle.std.specs.Prelude.{◌≡◌, true, ◌+◌, ◌-◌, ◌*◌, ◌^◌, ◌≤◌, ◌<◌, length};
 ghost use Rattle.octets.specs.Splice.{splice};
 ghost use Rattle.rules.specs.Facts.{slot_of, is_enabled, candidate, slot_input};
@@ -10,14 +12,14 @@ ghost use Rattle.header.specs.Records.{facts_in, HeaderOk};
 ghost use Rattle.slots.specs.Trials.{IsTest, IsTrial};
 
 // Whether a key has the header's checksum, and how many values of HMAC the test made.
-#[derive(Drop)]
+#[derive(Clone, Copy)]
 pub struct Test {
     pub matches: bool,
     pub values: u64,
 }
 
 // Whether a slot opens, and then its key, followed by zeros; how many values of HMAC the trial made.
-#[derive(Drop)]
+#[derive(Clone, Copy)]
 pub struct Trial {
     pub opens: bool,
     pub key: [u8; 64],

@@ -1,5 +1,7 @@
 // The splitter of LUKS 1 with any of the hashes (LUKS 1.2.2, section 2.4), stripe by stripe. With SHA-1 the four pieces of a 64-byte
 // block are hashed side by side; all others one by one.
+#![tactic(auto)]
+
 ghost use Rattle.std.specs.Prelude.{◌≡◌, ◌++◌, ◌+◌, ◌-◌, ◌*◌, ◌≤◌, ◌<◌, ◌^◌, length, take};
 ghost use Rattle.octets.specs.Octets.{be32, xors, zeros};
 ghost use Rattle.sha_1.specs.Sha1.{sha1};

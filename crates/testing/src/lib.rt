@@ -1,4 +1,6 @@
 // What the test programs share: bytes that are made and not stored, a file read whole, and the line of a verdict.
+#![tactic(auto)]
+
 ghost use Rattle.std.specs.Prelude.{◌≤◌};
 ghost use Rattle.io.specs.Counts.{IsPrefixLen};
 

@@ -1,4 +1,6 @@
 // Official vectors of the primitives, run against the code: one line for each, its name and ok or FAILED.
+#![tactic(auto)]
+
 mod blocks;
 mod derivations;
 mod digests;

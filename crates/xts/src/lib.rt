@@ -1,5 +1,7 @@
 // XTS-AES (IEEE 1619) on data units of whole blocks, in place: 32 blocks at a time, and the first tweaks of 32 data units at a time.
 // A data unit has 512 bytes, the last maybe fewer. No index, branch or shift count comes from a key or from data.
+#![tactic(auto)]
+
 ghost use Rattle.std.specs.Prelude.{◌≡◌, ℕ, ◌+◌, ◌-◌, ◌*◌, ◌/◌, ◌%◌, ◌^◌, ◌<◌, ◌≤◌, false, List, ◌++◌, length};
 ghost use Rattle.octets.specs.Octets.{xors};
 ghost use Rattle.octets.specs.Splice.{part};
@@ -9,7 +11,7 @@ ghost use Rattle.xts.specs.Xts.{little_endian, double, blocks, xts_encrypt, xts_
 ghost use Rattle.xts.specs.Keys.{tweak_bytes, tweak_at, Firsts, Ready, Expanded, Under, cipher_of, unit_run, unit_encrypt, unit_decrypt};
 
 // A tweak: a little-endian number of 16 bytes, in two halves.
-#[derive(Drop)]
+#[derive(Clone, Copy)]
 pub struct Tweak {
     pub low: u64,
     pub high: u64,
@@ -17,7 +19,7 @@ pub struct Tweak {
 
 // A key expanded once, for many data units: the key schedules of its halves, for the blocks and for the tweaks, and the number of
 // rounds before the last.
-#[derive(Drop)]
+#[derive(Clone, Copy)]
 pub struct Keys {
     pub blocks: [u8; 240],
     pub tweaks: [u8; 240],

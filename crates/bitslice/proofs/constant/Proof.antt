@@ -9,16 +9,16 @@ returns : tie.Need-returns
 unfolding constant_of
 returns c = refl
 
-pub constant-spec : {M : Type 1} → statement M
-constant-spec =
+pub constant_spec : {M : Type 1} → statement M
+constant_spec =
     tie.close
     (tie.spec
-    (λ array-read-t6. search rules)
-    (λ array-read-t10. search rules)
-    (λ array-read-t14. search rules)
-    (λ array-read-t17. search rules)
-    (λ array-read-t20. search rules)
-    (λ array-read-t23. search rules)
-    (λ array-read-t27. search rules)
-    (λ array-read-t31. search rules)
+    (λ c. search rules)
+    (λ c. search rules)
+    (λ c. search rules)
+    (λ c. search rules)
+    (λ c. search rules)
+    (λ c. search rules)
+    (λ c. search rules)
+    (λ c. search rules)
     returns)

@@ -9,22 +9,22 @@ returns : tie.Need-returns
 unfolding first_inputs first_inputs_of
 returns c = refl
 
-pub first-inputs-spec : {M : Type 1} → statement M
-first-inputs-spec =
+pub first_inputs_spec : {M : Type 1} → statement M
+first_inputs_spec =
     tie.close
     (tie.spec
-    (λ array-read-y14. search rules)
-    (λ array-read-y14-2. search rules)
-    (λ array-read-t0. search rules)
-    (λ array-read-t0-2. search rules)
-    (λ array-read-y1. search rules)
-    (λ array-read-y13. search rules)
-    (λ array-read-y13-2. search rules)
-    (λ array-read-y9. search rules)
-    (λ array-read-y9-2. search rules)
-    (λ array-read-y8. search rules)
-    (λ array-read-y8-2. search rules)
-    (λ array-read-y4. search rules)
-    (λ array-read-y5. search rules)
-    (λ array-read-y2. search rules)
+    (λ c. search rules)
+    (λ c. search rules)
+    (λ c. search rules)
+    (λ c. search rules)
+    (λ c. search rules)
+    (λ c. search rules)
+    (λ c. search rules)
+    (λ c. search rules)
+    (λ c. search rules)
+    (λ c. search rules)
+    (λ c. search rules)
+    (λ c. search rules)
+    (λ c. search rules)
+    (λ c. search rules)
     returns)

@@ -8,15 +8,15 @@ returns : tie.Need-returns
 unfolding inv_sbox_of
 returns c = cc
 
-pub inv-sbox-spec : {M : Type 1} → statement M
-inv-sbox-spec =
+pub inv_sbox_spec : {M : Type 1} → statement M
+inv_sbox_spec =
     tie.close
     (tie.spec
-    (λ constant-requires κs. search rules)
-    (λ inv-first-inputs-requires κs. search rules)
-    (λ inv-second-inputs-requires κs. search rules)
-    (λ norm-requires κs. search rules)
-    (λ inversion-requires κs. search rules)
-    (λ products-requires κs. search rules)
-    (λ inv-outputs-requires κs. search rules)
+    (λ c κs. search rules)
+    (λ c κs. search rules)
+    (λ c κs. search rules)
+    (λ c κs. search rules)
+    (λ c κs. search rules)
+    (λ c κs. search rules)
+    (λ c κs. search rules)
     returns)

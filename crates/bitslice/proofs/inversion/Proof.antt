@@ -9,20 +9,20 @@ returns : tie.Need-returns
 unfolding inversion inversion_of
 returns c = refl
 
-pub inversion-spec : {M : Type 1} → statement M
-inversion-spec =
+pub inversion_spec : {M : Type 1} → statement M
+inversion_spec =
     tie.close
     (tie.spec
-    (λ array-read-t26. search rules)
-    (λ array-read-t26-2. search rules)
-    (λ array-read-t25. search rules)
-    (λ array-read-t25-2. search rules)
-    (λ array-read-t27. search rules)
-    (λ array-read-t30. search rules)
-    (λ array-read-t30-2. search rules)
-    (λ array-read-t31. search rules)
-    (λ array-read-t33. search rules)
-    (λ array-read-t34. search rules)
-    (λ array-read-t29. search rules)
-    (λ array-read-t36. search rules)
+    (λ c. search rules)
+    (λ c. search rules)
+    (λ c. search rules)
+    (λ c. search rules)
+    (λ c. search rules)
+    (λ c. search rules)
+    (λ c. search rules)
+    (λ c. search rules)
+    (λ c. search rules)
+    (λ c. search rules)
+    (λ c. search rules)
+    (λ c. search rules)
     returns)

@@ -8,15 +8,15 @@ returns : tie.Need-returns
 unfolding sbox_of
 returns c = cc
 
-pub sbox-spec : {M : Type 1} → statement M
-sbox-spec =
+pub sbox_spec : {M : Type 1} → statement M
+sbox_spec =
     tie.close
     (tie.spec
-    (λ first-inputs-requires κs. search rules)
-    (λ second-inputs-requires κs. search rules)
-    (λ norm-requires κs. search rules)
-    (λ inversion-requires κs. search rules)
-    (λ products-requires κs. search rules)
-    (λ outputs-requires κs. search rules)
-    (λ constant-requires κs. search rules)
+    (λ c κs. search rules)
+    (λ c κs. search rules)
+    (λ c κs. search rules)
+    (λ c κs. search rules)
+    (λ c κs. search rules)
+    (λ c κs. search rules)
+    (λ c κs. search rules)
     returns)

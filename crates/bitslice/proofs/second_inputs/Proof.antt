@@ -9,21 +9,21 @@ returns : tie.Need-returns
 unfolding second_inputs second_inputs_of
 returns c = refl
 
-pub second-inputs-spec : {M : Type 1} → statement M
-second-inputs-spec =
+pub second_inputs_spec : {M : Type 1} → statement M
+second_inputs_spec =
     tie.close
     (tie.spec
-    (λ array-read-t1. search rules)
-    (λ array-read-t1-2. search rules)
-    (λ array-read-y20. search rules)
-    (λ array-read-y15. search rules)
-    (λ array-read-y11. search rules)
-    (λ array-read-t0. search rules)
-    (λ array-read-t0-2. search rules)
-    (λ array-read-y7. search rules)
-    (λ array-read-y6. search rules)
-    (λ array-read-y19. search rules)
-    (λ array-read-y21. search rules)
-    (λ array-read-y18. search rules)
-    (λ array-read-t20. search rules)
+    (λ c. search rules)
+    (λ c. search rules)
+    (λ c. search rules)
+    (λ c. search rules)
+    (λ c. search rules)
+    (λ c. search rules)
+    (λ c. search rules)
+    (λ c. search rules)
+    (λ c. search rules)
+    (λ c. search rules)
+    (λ c. search rules)
+    (λ c. search rules)
+    (λ c. search rules)
     returns)

@@ -10,44 +10,44 @@ use Rattle.hash.specs.Hash.{compression_of, chain}
 use Rattle.hash.proofs.absorb.Statement.{statement}
 use Rattle.hash.proofs.absorb.Tie as tie
 
-abbrev invariant_loop : tie.invariant_loop
+abbrev invariant_loop : tie.invariant-loop-i
 invariant_loop h m n v₀ i₀ v i = (i ≤ n) × (chain h v ≡ blocks (compression_of h) (chain h v₀) m i)
 
-abbrev decreases_loop : tie.decreases_loop
+abbrev decreases_loop : tie.decreases-loop-i
 decreases_loop h m n v₀ i₀ v i = n - i
 
-loop-holds : tie.Need-loop-init invariant_loop decreases_loop
+loop-holds : tie.Need-loop-i-init invariant_loop decreases_loop
 unfolding blocks
 loop-holds c = (omega arith, refl)
 
-loop-again : tie.Need-loop-preserved invariant_loop decreases_loop
+loop-again : tie.Need-loop-i-preserved invariant_loop decreases_loop
 loop-again c =
-    let at = c.before.before.before in
-    let a = at.before.before.args in
+    let at = c in
+    let a = at.args in
     let h = a.hash in
-    let v = at.loop.v in
-    (omega arith, blocks_more (compression_of h) (chain h a.s) (chain h v) (chain h c.compress-block.result) a.m.now at.loop.i at.loop.invariant.1 c.compress-block.ensures)
+    let v = at.loop-i.v in
+    (omega arith, blocks_more (compression_of h) (chain h a.s) (chain h v) (chain h c.compress_block-u.result) a.m.now at.loop-i.i at.loop-i.invariant.1 c.compress_block-u.ensures)
 
 returns : tie.Need-returns invariant_loop decreases_loop
 returns c =
     let at = c.before in
-    let e : at.loop.i ≡ length at.before.before.args.m.now / 64 = omega arith in
-    rw e at at.loop.invariant.1
+    let e : at.loop-i.i ≡ length at.args.m.now / 64 = omega arith in
+    rw e at at.loop-i.invariant.1
 
-pub absorb-spec : {M : Type 1} → statement M
-absorb-spec =
+pub absorb_spec : {M : Type 1} → statement M
+absorb_spec =
     tie.close
     (tie.spec
     invariant_loop
     decreases_loop
     loop-holds
-    (λ mul-a. search rules)
-    (λ add-e. search rules)
-    (λ sub-compress-block. search rules)
-    (λ part-compress-block-start. search rules)
-    (λ part-compress-block-end. search rules)
-    (λ compress-block-requires κs. search rules)
-    (λ add-i. search rules)
-    (λ loop-less. search rules)
+    (λ c. search rules)
+    (λ c. search rules)
+    (λ c. search rules)
+    (λ c. search rules)
+    (λ c. search rules)
+    (λ c κs. search rules)
+    (λ c. search rules)
+    (λ c. search rules)
     loop-again
     returns)

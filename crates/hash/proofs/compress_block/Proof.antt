@@ -8,5 +8,10 @@ returns : tie.Need-returns
 unfolding compress_block
 returns c = cc
 
-pub compress-block-spec : {M : Type 1} → statement M
-compress-block-spec = tie.close (tie.spec (λ load-requires κs. search rules) (λ compress-words-requires κs. search rules) returns)
+pub compress_block_spec : {M : Type 1} → statement M
+compress_block_spec =
+    tie.close
+    (tie.spec
+    (λ c κs. search rules)
+    (λ c κs. search rules)
+    returns)

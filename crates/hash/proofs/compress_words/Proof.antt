@@ -16,33 +16,33 @@ use Rattle.hash.proofs.compress_words.Tie as tie
 abbrev Compressed : List ℕ → List ℕ → List ℕ → Hash → Type 0
 Compressed r s m h = chain h r ≡ (compression_of h).compress (chain h s) m
 
-returns : tie.Need-returns
+returns : tie.Need-returns-in-Sha1
 returns c =
-    let k = c.before.compress-words in
-    let n = c.before.before.narrow in
-    let t = c.before.before.before in
-    let a = t.before.before.args in
-    subst (Compressed c.widen.result a.s a.m) (sym t.enum_told.given.1)
+    let k = c.compress_words in
+    let n = c.narrow in
+    let t = c in
+    let a = t.args in
+    subst (Compressed c.widen.result a.s a.m) (sym t.enum_told-1.given.1)
     (c.widen.ensures ∙ k.ensures ∙ ap (λ (x : List ℕ). sha1.compress_words x a.m) n.ensures)
 
-returns-2 : tie.Need-returns-2
+returns-2 : tie.Need-returns-in-Sha256
 returns-2 c =
-    let k = c.compress-words2 in
-    let a = c.before.before.before.args in
+    let k = c.compress_words-in-Sha256 in
+    let a = c.args in
     let l : length a.s ≡ 8 = search rules in
     let lk : length k.result ≡ 8 = search rules in
-    subst (Compressed k.result a.s a.m) (sym c.before.enum-told2.given.1)
+    subst (Compressed k.result a.s a.m) (sym c.enum_told-in-Sha256-1.given.1)
     (all_words k.result lk ∙ k.ensures ∙ ap (λ (x : List ℕ). sha256.compress_words x a.m) (sym (all_words a.s l)))
 
-pub compress-words-spec : {M : Type 1} → statement M
-compress-words-spec =
+pub compress_words_spec : {M : Type 1} → statement M
+compress_words_spec =
     tie.close
     (tie.spec
-    (λ enum_told. search rules)
-    (λ narrow-requires κs. search rules)
-    (λ compress-words-requires κs. search rules)
-    (λ widen-requires κs. search rules)
-    (λ enum-told-2. search rules)
-    (λ compress-words-requires-2 κs. search rules)
+    (λ c. search rules)
+    (λ c κs. search rules)
+    (λ c κs. search rules)
+    (λ c κs. search rules)
+    (λ c. search rules)
+    (λ c κs. search rules)
     returns
     returns-2)

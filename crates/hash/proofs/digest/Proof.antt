@@ -13,20 +13,19 @@ use Rattle.hash.proofs.digest.Tie as tie
 
 returns : tie.Need-returns
 returns c =
-    let f = c.before in
-    let a = f.before.before.before.before.args in
+    let f = c in
+    let a = f.args in
     let C = compression_of a.hash in
     let m = a.m.now in
-    let l : length f.finish-words.result ≡ 8 = search rules in
-    digest-chain a.hash f.finish-words.result c.store.result l c.store.ensures
-    ∙ ap digest (f.finish-words.ensures ∙ ap₂ (λ (s x : List ℕ). finish C s 0 x) f.before.before.start.ensures (append-nil m)) ∙ sym (hash_is C m)
+    let l : length f.finish_words.result ≡ 8 = search rules in
+    digest-chain a.hash f.finish_words.result c.store.result l c.store.ensures
+    ∙ ap digest (f.finish_words.ensures ∙ ap₂ (λ (s x : List ℕ). finish C s 0 x) f.start.ensures (append-nil m)) ∙ sym (hash_is C m)
 
-pub digest-spec : {M : Type 1} → statement M
-digest-spec =
+pub digest_spec : {M : Type 1} → statement M
+digest_spec =
     tie.close
     (tie.spec
-    (λ start-requires κs. search rules)
-    (λ slice-aggregate-finish-words. search rules)
-    (λ finish-words-requires κs. search rules)
-    (λ store-requires κs. search rules)
+    (λ c κs. search rules)
+    (λ c κs. search rules)
+    (λ c κs. search rules)
     returns)

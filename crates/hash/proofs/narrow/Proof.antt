@@ -9,16 +9,16 @@ use Rattle.hash.proofs.narrow.Tie as tie
 
 returns : tie.Need-returns
 returns c =
-    let l : length c.args.t1 ≡ 8 = search rules in
-    sym (take-elements 0 5 c.args.t1 (omega (arith, l)))
+    let l : length c.args.s ≡ 8 = search rules in
+    sym (take-elements 0 5 c.args.s (omega (arith, l)))
 
-pub narrow-spec : {M : Type 1} → statement M
-narrow-spec =
+pub narrow_spec : {M : Type 1} → statement M
+narrow_spec =
     tie.close
     (tie.spec
-    (λ array-read-t5. search rules)
-    (λ array-read-t8. search rules)
-    (λ array-read-t11. search rules)
-    (λ array-read-t14. search rules)
-    (λ array-read-t17. search rules)
+    (λ c. search rules)
+    (λ c. search rules)
+    (λ c. search rules)
+    (λ c. search rules)
+    (λ c. search rules)
     returns)

@@ -7,11 +7,17 @@ use borrow.Author.Rules.{rules}
 use Rattle.hash.proofs.size.Statement.{statement}
 use Rattle.hash.proofs.size.Tie as tie
 
-returns : tie.Need-returns
-returns c = (sym (ap (λ (h : Hash). (digest_of h).size) c.enum_told.given.1), omega arith, omega arith)
+returns : tie.Need-returns-in-Sha1
+returns c = (sym (ap (λ (h : Hash). (digest_of h).size) c.enum_told-1.given.1), omega arith, omega arith)
 
-returns-2 : tie.Need-returns-2
-returns-2 c = (sym (ap (λ (h : Hash). (digest_of h).size) c.enum-told2.given.1), omega arith, omega arith)
+returns-2 : tie.Need-returns-in-Sha256
+returns-2 c = (sym (ap (λ (h : Hash). (digest_of h).size) c.enum_told-in-Sha256-1.given.1), omega arith, omega arith)
 
-pub size-spec : {M : Type 1} → statement M
-size-spec = tie.close (tie.spec (λ enum_told. search rules) (λ enum-told-2. search rules) returns returns-2)
+pub size_spec : {M : Type 1} → statement M
+size_spec =
+    tie.close
+    (tie.spec
+    (λ c. search rules)
+    (λ c. search rules)
+    returns
+    returns-2)

@@ -13,20 +13,20 @@ use Rattle.hash.proofs.start.Tie as tie
 abbrev Started : List ℕ → Hash → Type 0
 Started r h = chain h r ≡ (compression_of h).initial
 
-returns : tie.Need-returns
-returns c = subst (Started c.widen.result) (sym c.before.before.enum_told.given.1) (c.widen.ensures ∙ c.before.start.ensures)
+returns : tie.Need-returns-in-Sha1
+returns c = subst (Started c.widen.result) (sym c.enum_told-1.given.1) (c.widen.ensures ∙ c.start.ensures)
 
-returns-2 : tie.Need-returns-2
-returns-2 c = subst (Started c.start2.result) (sym c.before.enum-told2.given.1) (ap (take 8) c.start2.ensures)
+returns-2 : tie.Need-returns-in-Sha256
+returns-2 c = subst (Started c.start-in-Sha256.result) (sym c.enum_told-in-Sha256-1.given.1) (ap (take 8) c.start-in-Sha256.ensures)
 
 pub start_spec : {M : Type 1} → statement M
 start_spec =
     tie.close
     (tie.spec
-    (λ enum_told. search rules)
-    (λ start-requires κs. search rules)
-    (λ widen-requires κs. search rules)
-    (λ enum-told-2. search rules)
-    (λ start-requires-2 κs. search rules)
+    (λ c. search rules)
+    (λ c κs. search rules)
+    (λ c κs. search rules)
+    (λ c. search rules)
+    (λ c κs. search rules)
     returns
     returns-2)

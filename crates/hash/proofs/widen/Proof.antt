@@ -8,16 +8,16 @@ use Rattle.hash.proofs.widen.Tie as tie
 
 returns : tie.Need-returns
 returns c =
-    let l : length c.args.t1 ≡ 5 = search rules in
-    sym (all_elements 0 5 c.args.t1 l)
+    let l : length c.args.v ≡ 5 = search rules in
+    sym (all_elements 0 5 c.args.v l)
 
 pub widen_spec : {M : Type 1} → statement M
 widen_spec =
     tie.close
     (tie.spec
-    (λ array-read-t5. search rules)
-    (λ array-read-t8. search rules)
-    (λ array-read-t11. search rules)
-    (λ array-read-t14. search rules)
-    (λ array-read-t17. search rules)
+    (λ c. search rules)
+    (λ c. search rules)
+    (λ c. search rules)
+    (λ c. search rules)
+    (λ c. search rules)
     returns)

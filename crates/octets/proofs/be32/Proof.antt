@@ -9,5 +9,12 @@ returns : tie.Need-returns
 unfolding big_endian
 returns c = refl
 
-pub be32-spec : {M : Type 1} → statement M
-be32-spec = tie.close (tie.spec (λ cast-t6. search rules) (λ cast-t10. search rules) (λ cast-t13. search rules) (λ cast-t15. search rules) returns)
+pub be32_spec : {M : Type 1} → statement M
+be32_spec =
+    tie.close
+    (tie.spec
+    (λ c. search rules)
+    (λ c. search rules)
+    (λ c. search rules)
+    (λ c. search rules)
+    returns)

@@ -8,16 +8,16 @@ returns : tie.Need-returns
 unfolding be32_at
 returns c = search rules
 
-pub be32-at-spec : {M : Type 1} → statement M
-be32-at-spec =
+pub be32_at_spec : {M : Type 1} → statement M
+be32_at_spec =
     tie.close
     (tie.spec
-    (λ shared-slice-read-be32-of. search rules)
-    (λ add-be32-of. search rules)
-    (λ shared-slice-read-be32-of-2. search rules)
-    (λ add-be32-of-2. search rules)
-    (λ shared-slice-read-be32-of-3. search rules)
-    (λ add-be32-of-3. search rules)
-    (λ shared-slice-read-be32-of-4. search rules)
-    (λ be32-of-requires κs. search rules)
+    (λ c. search rules)
+    (λ c. search rules)
+    (λ c. search rules)
+    (λ c. search rules)
+    (λ c. search rules)
+    (λ c. search rules)
+    (λ c. search rules)
+    (λ c κs. search rules)
     returns)

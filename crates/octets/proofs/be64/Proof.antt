@@ -9,16 +9,16 @@ returns : tie.Need-returns
 unfolding big_endian
 returns c = refl
 
-pub be64-spec : {M : Type 1} → statement M
-be64-spec =
+pub be64_spec : {M : Type 1} → statement M
+be64_spec =
     tie.close
     (tie.spec
-    (λ cast-t10. search rules)
-    (λ cast-t18. search rules)
-    (λ cast-t25. search rules)
-    (λ cast-t31. search rules)
-    (λ cast-t36. search rules)
-    (λ cast-t40. search rules)
-    (λ cast-t43. search rules)
-    (λ cast-t45. search rules)
+    (λ c. search rules)
+    (λ c. search rules)
+    (λ c. search rules)
+    (λ c. search rules)
+    (λ c. search rules)
+    (λ c. search rules)
+    (λ c. search rules)
+    (λ c. search rules)
     returns)

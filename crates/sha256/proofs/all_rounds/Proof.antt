@@ -14,20 +14,20 @@ returns c =
     let z = a.before.before in
     let s = z.before.before in
     let x = s.args in
-    let l : length x.m ≡ 16 = search (rules, s.well-formed) in
-    rounds_are x.m x.s f.rounds-40.new.0 f.rounds-40.result c.last-sixteen.result l
-    (turns_all (x.m, x.s) _ _ _ _ _ _ z.rounds-0.ensures a.rounds-8.ensures b.rounds-16.ensures d.rounds-24.ensures e.rounds-32.ensures f.rounds-40.ensures)
-    c.last-sixteen.ensures
+    let l : length x.m ≡ 16 = search (rules, s.well_formed) in
+    rounds_are x.m x.s f.rounds_40-f.new.w f.rounds_40-f.result c.last_sixteen.result l
+    (turns_all (x.m, x.s) _ _ _ _ _ _ z.rounds_0-a.ensures a.rounds_8-b.ensures b.rounds_16-c.ensures d.rounds_24-d.ensures e.rounds_32-e.ensures f.rounds_40-f.ensures)
+    c.last_sixteen.ensures
 
-pub all-rounds-spec : {M : Type 1} → statement M
-all-rounds-spec =
+pub all_rounds_spec : {M : Type 1} → statement M
+all_rounds_spec =
     tie.close
     (tie.spec
-    (λ rounds-0-requires κs. search rules)
-    (λ rounds-8-requires κs. search rules)
-    (λ rounds-16-requires κs. search rules)
-    (λ rounds-24-requires κs. search rules)
-    (λ rounds-32-requires κs. search rules)
-    (λ rounds-40-requires κs. search rules)
-    (λ last-sixteen-requires κs. search rules)
+    (λ c κs. search rules)
+    (λ c κs. search rules)
+    (λ c κs. search rules)
+    (λ c κs. search rules)
+    (λ c κs. search rules)
+    (λ c κs. search rules)
+    (λ c κs. search rules)
     returns)

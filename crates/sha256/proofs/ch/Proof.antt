@@ -11,5 +11,8 @@ returns c =
     let hz : a.z < 2 ^ 32 = search rules in
     ch-is a.x a.y a.z hx hz
 
-pub ch-spec : {M : Type 1} → statement M
-ch-spec = tie.close (tie.spec returns)
+pub ch_spec : {M : Type 1} → statement M
+ch_spec =
+    tie.close
+    (tie.spec
+    returns)

@@ -17,21 +17,21 @@ returns c =
     let p1 = p2.before.before in
     let a = p1.before.before.args in
     turns-eight a.w.now a.s 32 0 refl (omega arith)
-    p1.turn.ensures.0 p1.turn.ensures.1 p2.turn2.ensures.0 p2.turn2.ensures.1
-    p3.turn3.ensures.0 p3.turn3.ensures.1 p4.turn4.ensures.0 p4.turn4.ensures.1
-    p5.turn5.ensures.0 p5.turn5.ensures.1 p6.turn6.ensures.0 p6.turn6.ensures.1
-    p7.turn7.ensures.0 p7.turn7.ensures.1 c.turn8.ensures.0 c.turn8.ensures.1
+    p1.turn-a.ensures.0 p1.turn-a.ensures.1 p2.turn-b.ensures.0 p2.turn-b.ensures.1
+    p3.turn-c.ensures.0 p3.turn-c.ensures.1 p4.turn-d.ensures.0 p4.turn-d.ensures.1
+    p5.turn-e.ensures.0 p5.turn-e.ensures.1 p6.turn-f.ensures.0 p6.turn-f.ensures.1
+    p7.turn-g.ensures.0 p7.turn-g.ensures.1 c.turn.ensures.0 c.turn.ensures.1
 
-pub rounds-32-spec : {M : Type 1} → statement M
-rounds-32-spec =
+pub rounds_32_spec : {M : Type 1} → statement M
+rounds_32_spec =
     tie.close
     (tie.spec
-    (λ turn-requires κs. search rules)
-    (λ turn-requires-2 κs. search rules)
-    (λ turn-requires-3 κs. search rules)
-    (λ turn-requires-4 κs. search rules)
-    (λ turn-requires-5 κs. search rules)
-    (λ turn-requires-6 κs. search rules)
-    (λ turn-requires-7 κs. search rules)
-    (λ turn-requires-8 κs. search rules)
+    (λ c κs. search rules)
+    (λ c κs. search rules)
+    (λ c κs. search rules)
+    (λ c κs. search rules)
+    (λ c κs. search rules)
+    (λ c κs. search rules)
+    (λ c κs. search rules)
+    (λ c κs. search rules)
     returns)

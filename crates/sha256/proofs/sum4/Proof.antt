@@ -6,11 +6,11 @@ use Rattle.sha256.proofs.sum4.Tie as tie
 returns : tie.Need-returns
 returns c = cc
 
-pub sum4-spec : {M : Type 1} → statement M
-sum4-spec =
+pub sum4_spec : {M : Type 1} → statement M
+sum4_spec =
     tie.close
     (tie.spec
-    (λ wrapping-add-u32-requires κs. search rules)
-    (λ wrapping-add-u32-requires-2 κs. search rules)
-    (λ wrapping-add-u32-requires-3 κs. search rules)
+    (λ c κs. search rules)
+    (λ c κs. search rules)
+    (λ c κs. search rules)
     returns)

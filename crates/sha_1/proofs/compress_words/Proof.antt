@@ -8,24 +8,24 @@ returns : tie.Need-returns
 unfolding compress_words add_words
 returns c = cc
 
-pub compress-words-spec : {M : Type 1} → statement M
-compress-words-spec =
+pub compress_words_spec : {M : Type 1} → statement M
+compress_words_spec =
     tie.close
     (tie.spec
-    (λ all-rounds-requires κs. search rules)
-    (λ array-read-wrapping-add-u32. search rules)
-    (λ array-read-wrapping-add-u32-2. search rules)
-    (λ wrapping-add-u32-requires κs. search rules)
-    (λ array-read-wrapping-add-u32-3. search rules)
-    (λ array-read-wrapping-add-u32-4. search rules)
-    (λ wrapping-add-u32-requires-2 κs. search rules)
-    (λ array-read-wrapping-add-u32-5. search rules)
-    (λ array-read-wrapping-add-u32-6. search rules)
-    (λ wrapping-add-u32-requires-3 κs. search rules)
-    (λ array-read-wrapping-add-u32-7. search rules)
-    (λ array-read-wrapping-add-u32-8. search rules)
-    (λ wrapping-add-u32-requires-4 κs. search rules)
-    (λ array-read-wrapping-add-u32-9. search rules)
-    (λ array-read-wrapping-add-u32-10. search rules)
-    (λ wrapping-add-u32-requires-5 κs. search rules)
+    (λ c κs. search rules)
+    (λ c. search rules)
+    (λ c. search rules)
+    (λ c κs. search rules)
+    (λ c. search rules)
+    (λ c. search rules)
+    (λ c κs. search rules)
+    (λ c. search rules)
+    (λ c. search rules)
+    (λ c κs. search rules)
+    (λ c. search rules)
+    (λ c. search rules)
+    (λ c κs. search rules)
+    (λ c. search rules)
+    (λ c. search rules)
+    (λ c κs. search rules)
     returns)

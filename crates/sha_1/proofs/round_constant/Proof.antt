@@ -4,20 +4,26 @@ use Rattle.sha_1.proofs.RoundLaws.{k-last}
 use Rattle.sha_1.proofs.round_constant.Statement.{statement}
 use Rattle.sha_1.proofs.round_constant.Tie as tie
 
-returns : tie.Need-returns
+returns : tie.Need-returns-then-q-eq0
 unfolding k
-returns c = rw c.if1.true
+returns c = rw c.if-q-eq0.true
 
-returns-2 : tie.Need-returns-2
+returns-2 : tie.Need-returns-then-q-eq1
 unfolding k
-returns-2 c = rw c.if2.true
+returns-2 c = rw c.if-q-eq1.true
 
-returns-3 : tie.Need-returns-3
+returns-3 : tie.Need-returns-then-q-eq2
 unfolding k
-returns-3 c = rw c.if3.true
+returns-3 c = rw c.if-q-eq2.true
 
-returns-4 : tie.Need-returns-4
-returns-4 c = k-last c.before.before.before.args.q c.before.before.if1.false c.before.if2.false c.if3.false
+returns-4 : tie.Need-returns-else-q-eq2
+returns-4 c = k-last c.before.before.before.args.q c.before.before.if-q-eq0.false c.before.if-q-eq1.false c.if-q-eq2.false
 
-pub round-constant-spec : {M : Type 1} → statement M
-round-constant-spec = tie.close (tie.spec returns returns-2 returns-3 returns-4)
+pub round_constant_spec : {M : Type 1} → statement M
+round_constant_spec =
+    tie.close
+    (tie.spec
+    returns
+    returns-2
+    returns-3
+    returns-4)

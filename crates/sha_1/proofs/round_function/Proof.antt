@@ -5,19 +5,26 @@ use Rattle.sha_1.proofs.RoundLaws.{f-parity}
 use Rattle.sha_1.proofs.round_function.Statement.{statement}
 use Rattle.sha_1.proofs.round_function.Tie as tie
 
-returns : tie.Need-returns
+returns : tie.Need-returns-then-q-eq0
 unfolding f
-returns c = rw c.before.if1.true c.ch.ensures
+returns c = rw c.before.if-q-eq0.true c.ch.ensures
 
-returns-2 : tie.Need-returns-2
+returns-2 : tie.Need-returns-then-q-eq2
 unfolding f
-returns-2 c = rw c.before.if2.true c.maj.ensures
+returns-2 c = rw c.before.if-q-eq2.true c.maj.ensures
 
-returns-3 : tie.Need-returns-3
+returns-3 : tie.Need-returns-else-q-eq2
 returns-3 c =
     let a = c.before.before.before.args in
-    c.parity.ensures ∙ f-parity a.q a.x a.y a.z c.before.before.if1.false c.before.if2.false
+    c.parity.ensures ∙ f-parity a.q a.x a.y a.z c.before.before.if-q-eq0.false c.before.if-q-eq2.false
 
-pub round-function-spec : {M : Type 1} → statement M
-round-function-spec =
-    tie.close (tie.spec (λ ch-requires κs. search rules) (λ maj-requires κs. search rules) (λ parity-requires κs. search rules) returns returns-2 returns-3)
+pub round_function_spec : {M : Type 1} → statement M
+round_function_spec =
+    tie.close
+    (tie.spec
+    (λ c κs. search rules)
+    (λ c κs. search rules)
+    (λ c κs. search rules)
+    returns
+    returns-2
+    returns-3)

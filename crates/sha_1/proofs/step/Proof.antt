@@ -12,13 +12,13 @@ pub step_spec : {M : Type 1} → statement M
 step_spec =
     tie.close
     (tie.spec
-    (λ array-read-rotl5. search rules)
-    (λ rotl5-requires κs. search rules)
-    (λ array-read-sum5. search rules)
-    (λ sum5-requires κs. search rules)
-    (λ array-read-t16. search rules)
-    (λ array-read-rotl30. search rules)
-    (λ rotl30-requires κs. search rules)
-    (λ array-read-t23. search rules)
-    (λ array-read-t26. search rules)
+    (λ c. search rules)
+    (λ c κs. search rules)
+    (λ c. search rules)
+    (λ c κs. search rules)
+    (λ c. search rules)
+    (λ c. search rules)
+    (λ c κs. search rules)
+    (λ c. search rules)
+    (λ c. search rules)
     returns)

@@ -6,12 +6,12 @@ use Rattle.sha_1.proofs.sum5.Tie as tie
 returns : tie.Need-returns
 returns c = cc
 
-pub sum5-spec : {M : Type 1} → statement M
-sum5-spec =
+pub sum5_spec : {M : Type 1} → statement M
+sum5_spec =
     tie.close
     (tie.spec
-    (λ wrapping-add-u32-requires κs. search rules)
-    (λ wrapping-add-u32-requires-2 κs. search rules)
-    (λ wrapping-add-u32-requires-3 κs. search rules)
-    (λ wrapping-add-u32-requires-4 κs. search rules)
+    (λ c κs. search rules)
+    (λ c κs. search rules)
+    (λ c κs. search rules)
+    (λ c κs. search rules)
     returns)

@@ -6,45 +6,45 @@ use Rattle.sha_1.proofs.RoundLaws.{five_more}
 use Rattle.sha_1.proofs.twenty.Statement.{statement}
 use Rattle.sha_1.proofs.twenty.Tie as tie
 
-abbrev invariant_loop : tie.invariant_loop
+abbrev invariant_loop : tie.invariant-loop-i
 invariant_loop w₀ q v₀ i₀ w v i = (i ≤ 4) × (length w ≡ 96) × ((w, v) ≡ turns turn (w₀, v₀) (20 * q) (5 * i))
 
-abbrev decreases_loop : tie.decreases_loop
+abbrev decreases_loop : tie.decreases-loop-i
 decreases_loop w₀ q v₀ i₀ w v i = 4 - i
 
-loop-holds : tie.Need-loop-init invariant_loop decreases_loop
+loop-holds : tie.Need-loop-i-init invariant_loop decreases_loop
 unfolding turns
 loop-holds c = (omega arith, c.requires.1, refl)
 
-loop-again : tie.Need-loop-preserved invariant_loop decreases_loop
+loop-again : tie.Need-loop-i-preserved invariant_loop decreases_loop
 loop-again c =
     let at = c.before.before.before in
-    let l = at.loop in
+    let l = at.loop-i in
     let a = at.before.args in
-    let r = c.five in (
+    let r = c.five-u in (
       omega arith,
       r.ensures.0,
-      five_more (a.w.now, a.s) (l.w, l.v) (r.new.0, r.result) (20 * a.q) l.i l.invariant.2 r.ensures.1,
+      five_more (a.w.now, a.s) (l.w, l.v) (r.new.w, r.result) (20 * a.q) l.i l.invariant.2 r.ensures.1,
     )
 
 returns : tie.Need-returns invariant_loop decreases_loop
 returns c =
-    let l = c.before.loop in
+    let l = c.before.loop-i in
     let e : l.i ≡ 4 = omega arith in
     (l.invariant.1, rw e at l.invariant.2)
 
-pub twenty-spec : {M : Type 1} → statement M
-twenty-spec =
+pub twenty_spec : {M : Type 1} → statement M
+twenty_spec =
     tie.close
     (tie.spec
     invariant_loop
     decreases_loop
     loop-holds
-    (λ mul-five. search rules)
-    (λ mul-five-2. search rules)
-    (λ add_five. search rules)
-    (λ five-requires κs. search rules)
-    (λ add-i. search rules)
-    (λ loop-less. search rules)
+    (λ c. search rules)
+    (λ c. search rules)
+    (λ c. search rules)
+    (λ c κs. search rules)
+    (λ c. search rules)
+    (λ c. search rules)
     loop-again
     returns)

@@ -11,26 +11,26 @@ returns c =
     let a = c.before.before.before.before.before.before.args in
     (ap (set a.w.now (16 + a.t)) c.next_word.ensures, refl)
 
-pub word-spec : {M : Type 1} → statement M
-word-spec =
+pub word_spec : {M : Type 1} → statement M
+word_spec =
     tie.close
     (tie.spec
-    (λ mul-x. search rules)
-    (λ element-copy-out-x. search rules)
-    (λ add-k. search rules)
-    (λ sub-next-word. search rules)
-    (λ mul-next-word. search rules)
-    (λ element-copy-out-next-word. search rules)
-    (λ sub-next-word-2. search rules)
-    (λ mul-next-word-2. search rules)
-    (λ element-copy-out-next-word-2. search rules)
-    (λ sub-next-word-3. search rules)
-    (λ mul-next-word-3. search rules)
-    (λ element-copy-out-next-word-3. search rules)
-    (λ sub-next-word-4. search rules)
-    (λ mul-next-word-4. search rules)
-    (λ element-copy-out-next-word-4. search rules)
-    (λ next-word-requires κs. search rules)
-    (λ mul-w. search rules)
-    (λ element-write-w. search rules)
+    (λ c. search rules)
+    (λ c. search rules)
+    (λ c. search rules)
+    (λ c. search rules)
+    (λ c. search rules)
+    (λ c. search rules)
+    (λ c. search rules)
+    (λ c. search rules)
+    (λ c. search rules)
+    (λ c. search rules)
+    (λ c. search rules)
+    (λ c. search rules)
+    (λ c. search rules)
+    (λ c. search rules)
+    (λ c. search rules)
+    (λ c κs. search rules)
+    (λ c. search rules)
+    (λ c. search rules)
     returns)

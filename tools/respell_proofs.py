@@ -1,0 +1,214 @@
+#!/usr/bin/env python3
+"""Brings the Proof.antt files of a crate to the names that the checker gives today to goals, places and fields. The checker lists each old name
+with its new one; this goes by that list, and by the order of the answers where a name is gone.
+
+usage: tools/respell_proofs.py NAME..      in the repository: for each crate, runs the checker for the list, and rewrites its Proof.antt files
+"""
+import difflib
+import glob
+import json
+import os
+import re
+import subprocess
+import sys
+import tempfile
+
+TOKEN = r"[^\s(){}\[\];,.:«»\"`|]+"
+
+
+def norm(word):
+    word = word.lower().replace("-", "_")
+    return word[: -len("_lem")] if word.endswith("_lem") else word
+
+
+def lists(crate):
+    """The checker's list for each function of the crate, by the path of its folder."""
+    with tempfile.TemporaryDirectory() as d:
+        subprocess.run(["rt", "check", "--generated", d, "--old-names"], cwd="crates/" + crate, stdout=subprocess.DEVNULL, stderr=subprocess.DEVNULL)
+        names = json.load(open(d + "/names.json", encoding="utf-8"))
+    out = {}
+    for key, it in names.items():
+        m = re.match(r"Rattle-" + crate + r"-proofs\.(.*)\.Lts$", key)
+        if m:
+            out[m.group(1).replace(".", "/")] = it
+    return out
+
+
+def lent(crate):
+    """The names of the parameters by &mut of each function that any crate declares, in order, by the function's name."""
+    out = {}
+    for f in glob.glob("crates/*/src/**/*.rt", recursive=True):
+        text = open(f, encoding="utf-8").read()
+        for m in re.finditer(r"\bfn (\w+)(?:<[^>]*>)?\(([^{]*?)\)\s*(?:->|requires|ensures|where|\{)", text, re.S):
+            out.setdefault(m.group(1), []).append(re.findall(r"(\w+)\s*:\s*&(?:'\w+ )?mut ", m.group(2)))
+    return out
+
+
+def entries(text):
+    """What stands before the proof itself, the line that states it, and the entries of its list."""
+    m = re.search(r"^pub " + TOKEN + r" : \{M.*$", text, re.M)
+    at = text.rfind("(tie.spec")
+    if not m or at < 0:
+        return None
+    out, depth, word = [], 0, ""
+    for ch in text[at + len("(tie.spec") :]:
+        depth += ch in "([{"
+        depth -= ch in ")]}"
+        if depth < 0:
+            break
+        if ch.isspace() and depth == 0:
+            out += [word] if word else []
+            word = ""
+        else:
+            word += ch
+    out += [word] if word else []
+    return text[: m.start()].rstrip("\n") + "\n", out
+
+
+def declared_need(head, name):
+    m = re.search(r"^" + re.escape(name) + r" : tie\.Need-(" + TOKEN + ")", head, re.M)
+    return m.group(1) if m else None
+
+
+def old_need(head, entry):
+    """The old name of the goal that an entry answers."""
+    if entry.startswith("("):
+        m = re.match(r"\(λ (" + TOKEN + ")", entry)
+        return m.group(1) if m else entry
+    return declared_need(head, entry.split(" ")[0]) or entry
+
+
+def pair(olds, needs):
+    """For each need of the checker the index of the entry that answers it, or None."""
+    a, b = [norm(o) for o in olds], [norm(n[0]) for n in needs]
+    if a == b or len(a) == len(b):
+        return list(range(len(b)))
+    out = [None] * len(b)
+    for tag, i1, i2, j1, j2 in difflib.SequenceMatcher(None, a, b, autojunk=False).get_opcodes():
+        if tag == "equal" or (tag == "replace" and i2 - i1 == j2 - j1):
+            for k in range(j2 - j1):
+                out[j1 + k] = i1 + k
+    return out
+
+
+def paths_of(text, fields, callee, muts):
+    """The paths of one definition: the first field that is none of the way back is a place's, and every place has the fields of those before it;
+    what a call changed goes by the names of its parameters."""
+    inner, call_of = set(), {}
+
+    def way(m):
+        """A way back that is used for its fields alone is not needed."""
+        uses = re.findall(r"(?<![\w'.-])" + re.escape(m.group(1)) + r"(?![\w'-])(\.)?", text)
+        return f"let {m.group(1)} = {m.group(2)} in" if all(uses[1:]) else m.group(0)
+
+    text = re.sub(r"\blet (" + TOKEN + r") = (" + TOKEN + r")(?:\.before)+ in(?=\s)", way, text)
+    for m in re.finditer(r"\blet (" + TOKEN + r")(?: : [^\n=]*?)? = ([^\n]*?) in(?=\s)", text):
+        last = re.search(r"\.(" + TOKEN + ")$", m.group(2))
+        if last and last.group(1) != "before":
+            inner.add(m.group(1))
+            call_of[m.group(1)] = callee.get(fields.get(norm(last.group(1))))
+
+    def lent_name(call, i):
+        for names in muts.get(call, []) if call else [n for c in sorted({c for c in callee.values()}) for n in muts.get(c, [])]:
+            if i < len(names):
+                return names[i]
+        return None
+
+    def path(m):
+        if m.group(1) in ("tie", "use"):
+            return m.group(0)
+        words, call, k = m.group(2).split(".")[1:], call_of.get(m.group(1)), 0
+        while k < len(words) and words[k] == "before":
+            k += 1
+        if k == len(words):
+            return m.group(0)
+        words = words[k:]
+        if m.group(1) not in inner and norm(words[0]) in fields:
+            words[0] = fields[norm(words[0])]
+            call = callee.get(words[0], call)
+        for k, w in enumerate(words):
+            if w.isdigit() and (words[k - 1] in ("new", "auto") if k else False):
+                words[k] = lent_name(call, int(w)) or w
+        return m.group(1) + "." + ".".join(words)
+
+    return re.sub(r"(\)|" + TOKEN + r")((?:\." + TOKEN + ")+)", path, text)
+
+
+def respell(text, it, muts, function):
+    cut = entries(text)
+    if cut is None:
+        return None, ["no list"]
+    head, answers = cut
+    notes = []
+    loops = {norm(o): n for (o, n), _ in it["loops"]}
+    count = 2 * len(it["loops"])
+    stated, answers = answers[:count], answers[count:]
+    needs = it["needs"]
+    match = pair([old_need(head, a) for a in answers], needs)
+    used = {m for m in match if m is not None}
+    for i, a in enumerate(answers):
+        if i not in used and not re.match(r"\(λ .*search rules\)$", a, re.S):
+            notes.append("answer left out: " + a[:60])
+    # goals
+    goal = {}
+    for j, m in enumerate(match):
+        if m is not None:
+            goal[norm(old_need(head, answers[m]))] = needs[j][1]
+    for o, n in needs:
+        goal.setdefault(norm(o), n)
+    head = re.sub(r"\btie\.Need-(" + TOKEN + ")", lambda m: "tie.Need-" + goal.get(norm(m.group(1)), m.group(1)), head)
+    # loops
+    head = re.sub(r"\btie\.(invariant|decreases)[-_](" + TOKEN + ")", lambda m: f"tie.{m.group(1)}-{loops.get(norm(m.group(2)), m.group(2))}", head)
+    # places
+    places = {norm(p[0]): n for p, n in zip(it["places"], it["places_by_name"])}
+    head = re.sub(r"\btie\.((?:After|At|In|Then|Else|Start)(?:" + TOKEN + ")?)", lambda m: "tie." + places.get(norm(m.group(1)), m.group(1)), head)
+    # fields of places
+    fields, callee = {}, {}
+    for p in it["places"]:
+        o, n = p[2]
+        if o:
+            if norm(o) in fields and fields[norm(o)] != n:
+                notes.append(f"field {o}: {fields[norm(o)]} and {n}")
+            fields[norm(o)] = n
+            if p[3]:
+                callee[n] = p[3].split("::")[-1]
+
+    head = "\n\n".join(paths_of(part, fields, callee, muts) for part in head.split("\n\n"))
+
+    # parameters that had a number, and what is told of them
+    for o, n in it["args"]:
+        o, n = o.split(" .")[-1].lstrip("."), n.split(" .")[-1].lstrip(".")
+        if o != n:
+            head = re.sub(r"\." + re.escape(o) + r"(?![\w'-])", "." + n, head)
+
+    head = head.replace(".well-formed", ".well_formed")
+    head = re.sub(r"\.pre\b", ".requires", head)
+    lines = []
+    for j, m in enumerate(match):
+        a = answers[m] if m is not None else None
+        if a is None or re.match(r"\(λ " + TOKEN + r"( κs)?\. search rules\)$", a):
+            tail = " κs" if needs[j][1].endswith("requires") or re.search(r"-requires(-|$)", needs[j][1]) else ""
+            a = f"(λ c{tail}. search rules)"
+        lines.append("    " + a)
+    lines = ["    " + s for s in stated] + lines
+    proof = f"\npub {function}_spec : {{M : Type 1}} → statement M\n{function}_spec =\n    tie.close\n    (tie.spec\n"
+    return head + proof + "\n".join(lines) + ")\n", notes
+
+
+def main(argv):
+    muts = lent(None)
+    for crate in argv:
+        for path, it in sorted(lists(crate).items()):
+            f = f"crates/{crate}/proofs/{path}/Proof.antt"
+            if not os.path.exists(f):
+                continue
+            text, notes = respell(open(f, encoding="utf-8").read(), it, muts, path.split("/")[-1])
+            for n in notes:
+                print(f"{f}: {n}")
+            if text:
+                open(f, "w", encoding="utf-8").write(text)
+    return 0
+
+
+if __name__ == "__main__":
+    raise SystemExit(main(sys.argv[1:]))

@@ -7,20 +7,20 @@ use Rattle.planes.proofs.transpose.Tie as tie
 
 returns : tie.Need-returns
 returns c =
-    let q = c.before.before.before.before.before.before.before.before.before.before.before.before.before.before.before.args.q.now in
-    let x₁ = c.before.before.before.before.before.before.before.before.before.before.before.before.exchange in
-    let x₂ = c.before.before.before.before.before.before.before.before.before.exchange2 in
-    let x₃ = c.before.before.before.before.before.before.exchange3 in
-    let x₄ = c.before.before.before.exchange4 in
-    let x₅ = c.exchange5 in (
+    let q = c.args.q.now in
+    let x₁ = c.exchange in
+    let x₂ = c.exchange-2 in
+    let x₃ = c.exchange-3 in
+    let x₄ = c.exchange-4 in
+    let x₅ = c.exchange-5 in (
       x₅.ensures.0,
-      transposed q x₅.new.0 (record {
-        mid = x₄.new.0;
+      transposed q x₅.new.d (record {
+        mid = x₄.new.d;
         earlier = record {
-          mid = x₃.new.0;
+          mid = x₃.new.d;
           earlier = record {
-            mid = x₂.new.0;
-            earlier = record { mid = x₁.new.0; earlier = record { mid = q; earlier = refl; last = x₁.ensures.1 }; last = x₂.ensures.1 };
+            mid = x₂.new.d;
+            earlier = record { mid = x₁.new.d; earlier = record { mid = q; earlier = refl; last = x₁.ensures.1 }; last = x₂.ensures.1 };
             last = x₃.ensures.1;
           };
           last = x₄.ensures.1;
@@ -29,13 +29,13 @@ returns c =
       }),
     )
 
-pub transpose-spec : {M : Type 1} → statement M
-transpose-spec =
+pub transpose_spec : {M : Type 1} → statement M
+transpose_spec =
     tie.close
     (tie.spec
-    (λ exchange-requires κs. search rules)
-    (λ exchange-requires-2 κs. search rules)
-    (λ exchange-requires-3 κs. search rules)
-    (λ exchange-requires-4 κs. search rules)
-    (λ exchange-requires-5 κs. search rules)
+    (λ c κs. search rules)
+    (λ c κs. search rules)
+    (λ c κs. search rules)
+    (λ c κs. search rules)
+    (λ c κs. search rules)
     returns)

@@ -22,7 +22,7 @@ returns c =
     let n = c.narrow in
     let t = c in
     let a = t.args in
-    subst (Compressed c.widen.result a.s a.m) (sym t.enum_told-1.given.1)
+    subst (Compressed c.widen.result a.s a.m) (sym c.in-Sha1.is)
     (c.widen.ensures ∙ k.ensures ∙ ap (λ (x : List ℕ). sha1.compress_words x a.m) n.ensures)
 
 returns-2 : tie.Need-returns-in-Sha256
@@ -31,7 +31,7 @@ returns-2 c =
     let a = c.args in
     let l : length a.s ≡ 8 = search rules in
     let lk : length k.result ≡ 8 = search rules in
-    subst (Compressed k.result a.s a.m) (sym c.enum_told-in-Sha256-1.given.1)
+    subst (Compressed k.result a.s a.m) (sym c.in-Sha256.is)
     (all_words k.result lk ∙ k.ensures ∙ ap (λ (x : List ℕ). sha256.compress_words x a.m) (sym (all_words a.s l)))
 
 pub compress_words_spec : {M : Type 1} → statement M

@@ -8,10 +8,10 @@ use Rattle.hash.proofs.size.Statement.{statement}
 use Rattle.hash.proofs.size.Tie as tie
 
 returns : tie.Need-returns-in-Sha1
-returns c = (sym (ap (λ (h : Hash). (digest_of h).size) c.enum_told-1.given.1), omega arith, omega arith)
+returns c = (sym (ap (λ (h : Hash). (digest_of h).size) c.in-Sha1.is), omega arith, omega arith)
 
 returns-2 : tie.Need-returns-in-Sha256
-returns-2 c = (sym (ap (λ (h : Hash). (digest_of h).size) c.enum_told-in-Sha256-1.given.1), omega arith, omega arith)
+returns-2 c = (sym (ap (λ (h : Hash). (digest_of h).size) c.in-Sha256.is), omega arith, omega arith)
 
 pub size_spec : {M : Type 1} → statement M
 size_spec =

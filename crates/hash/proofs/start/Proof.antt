@@ -14,10 +14,10 @@ abbrev Started : List ℕ → Hash → Type 0
 Started r h = chain h r ≡ (compression_of h).initial
 
 returns : tie.Need-returns-in-Sha1
-returns c = subst (Started c.widen.result) (sym c.enum_told-1.given.1) (c.widen.ensures ∙ c.start.ensures)
+returns c = subst (Started c.widen.result) (sym c.in-Sha1.is) (c.widen.ensures ∙ c.start.ensures)
 
 returns-2 : tie.Need-returns-in-Sha256
-returns-2 c = subst (Started c.start-in-Sha256.result) (sym c.enum_told-in-Sha256-1.given.1) (ap (take 8) c.start-in-Sha256.ensures)
+returns-2 c = subst (Started c.start-in-Sha256.result) (sym c.in-Sha256.is) (ap (take 8) c.start-in-Sha256.ensures)
 
 pub start_spec : {M : Type 1} → statement M
 start_spec =

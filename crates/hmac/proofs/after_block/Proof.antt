@@ -6,14 +6,14 @@ use Rattle.hmac.proofs.after_block.Tie as tie
 returns : tie.Need-returns
 returns c = cc
 
-pub after-block-spec : {M : Type 1} → statement M
-after-block-spec =
+pub after_block_spec : {M : Type 1} → statement M
+after_block_spec =
     tie.close
     (tie.spec
-    (λ slice-aggregate-xor-into. search rules)
-    (λ slice-aggregate-xor-into-2. search rules)
-    (λ xor-into-requires κs. search rules)
-    (λ start-requires κs. search rules)
-    (λ slice-aggregate-compress-block. search rules)
-    (λ compress-block-requires κs. search rules)
+    (λ c. search rules)
+    (λ c. search rules)
+    (λ c κs. search rules)
+    (λ c κs. search rules)
+    (λ c. search rules)
+    (λ c κs. search rules)
     returns)

@@ -13,13 +13,16 @@ use Rattle.hmac.proofs.finish_keyed.Tie as tie
 returns : tie.Need-returns
 unfolding finish_keyed
 returns c =
-    let f = c.before in
-    let a = f.before.before.before.args in
-    let l : length f.finish-words.result ≡ 8 = search rules in
-    digest-chain a.hash f.finish-words.result c.store.result l c.store.ensures
-    ∙ ap digest (f.finish-words.ensures ∙ ap (finish (compression_of a.hash) (chain a.hash a.s) 64) (append-nil a.m.now))
+    let f = c in
+    let a = f.args in
+    let l : length f.finish_words.result ≡ 8 = search rules in
+    digest-chain a.hash f.finish_words.result c.store.result l c.store.ensures
+    ∙ ap digest (f.finish_words.ensures ∙ ap (finish (compression_of a.hash) (chain a.hash a.s) 64) (append-nil a.m.now))
 
-pub finish-keyed-spec : {M : Type 1} → statement M
-finish-keyed-spec =
+pub finish_keyed_spec : {M : Type 1} → statement M
+finish_keyed_spec =
     tie.close
-    (tie.spec (λ slice-aggregate-finish-words. search rules) (λ finish-words-requires κs. search rules) (λ store-requires κs. search rules) returns)
+    (tie.spec
+    (λ c κs. search rules)
+    (λ c κs. search rules)
+    returns)

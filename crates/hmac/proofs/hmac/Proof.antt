@@ -9,10 +9,15 @@ use Rattle.hmac.proofs.hmac.Tie as tie
 
 returns : tie.Need-returns
 returns c =
-    let a = c.before.before.before.before.args in
-    let k = c.before.prepare in
-    c.hmac-with.ensures ∙ hmac-keyed (compression_of a.hash) (lawful-compression a.hash) a.key.now a.m.now
+    let a = c.args in
+    let k = c.prepare in
+    c.hmac_with.ensures ∙ hmac-keyed (compression_of a.hash) (lawful-compression a.hash) a.key.now a.m.now
     (chain a.hash k.result.inner) (chain a.hash k.result.outer) k.ensures.0 k.ensures.1
 
-pub hmac-spec : {M : Type 1} → statement M
-hmac-spec = tie.close (tie.spec (λ prepare-requires κs. search rules) (λ hmac-with-requires κs. search rules) returns)
+pub hmac_spec : {M : Type 1} → statement M
+hmac_spec =
+    tie.close
+    (tie.spec
+    (λ c κs. search rules)
+    (λ c κs. search rules)
+    returns)

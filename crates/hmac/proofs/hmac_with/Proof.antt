@@ -10,34 +10,34 @@ use borrow.Author.Rules.{rules}
 use Rattle.hmac.proofs.hmac_with.Statement.{statement}
 use Rattle.hmac.proofs.hmac_with.Tie as tie
 
-slice-aggregate-finish-keyed : tie.Need-slice-aggregate-finish-keyed
+slice-aggregate-finish-keyed : tie.Need-slice_bounds-finish_keyed-end
 slice-aggregate-finish-keyed c =
-    let h = c.before.before.finish-keyed.result in
-    let d = c.before.size in
+    let h = c.finish_keyed-h.result in
+    let d = c.size-d in
     let l : length h ≡ 32 = search rules in
     sym (length-take-le d.result h (omega (arith, d.ensures.2)))
 
-finish-keyed_requires_2 : tie.Need-finish-keyed-requires-2
+finish-keyed_requires_2 : tie.Need-finish_keyed-requires
 finish-keyed_requires_2 c κs =
-    let h = c.before.before.finish-keyed.result in
-    let d = c.before.size in
+    let h = c.finish_keyed-h.result in
+    let d = c.size-d in
     let l : length h ≡ 32 = search rules in
     omega (arith, d.ensures.2, length-take-le d.result h (omega (arith, d.ensures.2)))
 
 returns : tie.Need-returns
 returns c =
-    let a = c.before.before.before.before.before.before.before.args in
-    let h = c.before.before.before.finish-keyed in
-    c.finish-keyed2.ensures
-    ∙ ap (finish_keyed (compression_of a.hash) (chain a.hash a.k.outer)) (ap (λ (n : ℕ). take n h.result) c.before.before.size.ensures.0 ∙ h.ensures)
+    let a = c.args in
+    let h = c.finish_keyed-h in
+    c.finish_keyed.ensures
+    ∙ ap (finish_keyed (compression_of a.hash) (chain a.hash a.k.outer)) (ap (λ (n : ℕ). take n h.result) c.size-d.ensures.0 ∙ h.ensures)
 
-pub hmac-with-spec : {M : Type 1} → statement M
-hmac-with-spec =
+pub hmac_with_spec : {M : Type 1} → statement M
+hmac_with_spec =
     tie.close
     (tie.spec
-    (λ finish-keyed-requires κs. search rules)
-    (λ size-requires κs. search rules)
-    (λ array-share-prefix-h. search rules)
+    (λ c κs. search rules)
+    (λ c κs. search rules)
+    (λ c. search rules)
     slice-aggregate-finish-keyed
     finish-keyed_requires_2
     returns)

@@ -9,6 +9,11 @@ returns : tie.Need-returns
 unfolding keyed xor_pad
 returns c = (cc, cc)
 
-pub prepare-spec : {M : Type 1} → statement M
-prepare-spec =
-    tie.close (tie.spec (λ key-block-requires κs. search rules) (λ after-block-requires κs. search rules) (λ after-block-requires-2 κs. search rules) returns)
+pub prepare_spec : {M : Type 1} → statement M
+prepare_spec =
+    tie.close
+    (tie.spec
+    (λ c κs. search rules)
+    (λ c κs. search rules)
+    (λ c κs. search rules)
+    returns)

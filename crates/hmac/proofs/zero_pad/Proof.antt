@@ -10,8 +10,13 @@ use Rattle.hmac.proofs.zero_pad.Tie as tie
 returns : tie.Need-returns
 unfolding zeros
 returns c =
-    let t = c.before.before.before.before.args.t.now in
-    c.before.copy-into.ensures ∙ splice-zeros 64 t (omega arith)
+    let t = c.args.t.now in
+    c.copy_into.ensures ∙ splice-zeros 64 t (omega arith)
 
-pub zero-pad-spec : {M : Type 1} → statement M
-zero-pad-spec = tie.close (tie.spec (λ slice-aggregate-copy-into. search rules) (λ copy-into-requires κs. search rules) returns)
+pub zero_pad_spec : {M : Type 1} → statement M
+zero_pad_spec =
+    tie.close
+    (tie.spec
+    (λ c. search rules)
+    (λ c κs. search rules)
+    returns)

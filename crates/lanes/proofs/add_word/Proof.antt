@@ -5,22 +5,22 @@ use Rattle.lanes.proofs.add_word.Statement.{statement}
 use Rattle.lanes.proofs.add_word.Tie as tie
 
 returns : tie.Need-returns
-returns c = each _ c.before.before.before.wrapping-add-u32.ensures c.before.before.wrapping-add-u322.ensures c.before.wrapping-add-u323.ensures c.wrapping-add-u324.ensures
+returns c = each _ c.wrapping_add_u32.ensures c.wrapping_add_u32-2.ensures c.wrapping_add_u32-3.ensures c.wrapping_add_u32-4.ensures
 
-pub add-word-spec : {M : Type 1} → statement M
-add-word-spec =
+pub add_word_spec : {M : Type 1} → statement M
+add_word_spec =
     tie.close
     (tie.spec
-    (λ array-read-wrapping-add-u32. search rules)
-    (λ array-read-wrapping-add-u32-2. search rules)
-    (λ wrapping-add-u32-requires κs. search rules)
-    (λ array-read-wrapping-add-u32-3. search rules)
-    (λ array-read-wrapping-add-u32-4. search rules)
-    (λ wrapping-add-u32-requires-2 κs. search rules)
-    (λ array-read-wrapping-add-u32-5. search rules)
-    (λ array-read-wrapping-add-u32-6. search rules)
-    (λ wrapping-add-u32-requires-3 κs. search rules)
-    (λ array-read-wrapping-add-u32-7. search rules)
-    (λ array-read-wrapping-add-u32-8. search rules)
-    (λ wrapping-add-u32-requires-4 κs. search rules)
+    (λ c. search rules)
+    (λ c. search rules)
+    (λ c κs. search rules)
+    (λ c. search rules)
+    (λ c. search rules)
+    (λ c κs. search rules)
+    (λ c. search rules)
+    (λ c. search rules)
+    (λ c κs. search rules)
+    (λ c. search rules)
+    (λ c. search rules)
+    (λ c κs. search rules)
     returns)

@@ -9,5 +9,9 @@ returns c =
     let e = c.gather.ensures in
     each _ e.0 e.1 e.2 e.3
 
-pub broadcast-spec : {M : Type 1} → statement M
-broadcast-spec = tie.close (tie.spec (λ gather-requires κs. search rules) returns)
+pub broadcast_spec : {M : Type 1} → statement M
+broadcast_spec =
+    tie.close
+    (tie.spec
+    (λ c κs. search rules)
+    returns)

@@ -7,16 +7,16 @@ use Rattle.lanes.proofs.or_word.Tie as tie
 returns : tie.Need-returns
 returns c = each _ refl refl refl refl
 
-pub or-word-spec : {M : Type 1} → statement M
-or-word-spec =
+pub or_word_spec : {M : Type 1} → statement M
+or_word_spec =
     tie.close
     (tie.spec
-    (λ array-read-t7. search rules)
-    (λ array-read-t10. search rules)
-    (λ array-read-t14. search rules)
-    (λ array-read-t17. search rules)
-    (λ array-read-t21. search rules)
-    (λ array-read-t24. search rules)
-    (λ array-read-t28. search rules)
-    (λ array-read-t31. search rules)
+    (λ c. search rules)
+    (λ c. search rules)
+    (λ c. search rules)
+    (λ c. search rules)
+    (λ c. search rules)
+    (λ c. search rules)
+    (λ c. search rules)
+    (λ c. search rules)
     returns)

@@ -6,10 +6,14 @@ use Rattle.mixing.proofs.inv_mix_columns.Tie as tie
 
 returns : tie.Need-returns
 returns c =
-    let x = c.before.before.premix-columns in
-    let r = c.mix-columns in
-    (r.ensures.0, each_inv_mix c.before.before.before.before.args.q.now x.new.0 r.new.0 x.ensures.1 r.ensures.1)
+    let x = c.premix_columns in
+    let r = c.mix_columns in
+    (r.ensures.0, each_inv_mix c.args.q.now x.new.q r.new.q x.ensures.1 r.ensures.1)
 
-pub inv-mix-columns-spec : {M : Type 1} → statement M
-inv-mix-columns-spec =
-    tie.close (tie.spec (λ premix-columns-requires κs. search rules) (λ mix-columns-requires κs. search rules) returns)
+pub inv_mix_columns_spec : {M : Type 1} → statement M
+inv_mix_columns_spec =
+    tie.close
+    (tie.spec
+    (λ c κs. search rules)
+    (λ c κs. search rules)
+    returns)

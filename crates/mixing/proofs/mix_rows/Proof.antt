@@ -9,21 +9,21 @@ use Rattle.mixing.proofs.mix_rows.Tie as tie
 
 returns : tie.Need-returns
 returns c =
-    let s = c.before.before.before.before.before.before.args in
-    let e = c.before.mixed.ensures ∙ ap (λ (u : List ℕ). mixed_of u s.a) c.before.before.next-sums.ensures in
+    let s = c.args in
+    let e = c.mixed.ensures ∙ ap (λ (u : List ℕ). mixed_of u s.a) c.next_sums.ensures in
     record {
-      size = c.put-rows.ensures.0;
-      read = c.before.before.before.before.rows.ensures;
-      put = c.put-rows.ensures.1 ∙ ap (λ (x : List ℕ). put_rows (s.k + 16) x s.q.now) e;
+      size = c.put_rows.ensures.0;
+      read = c.rows-b.ensures;
+      put = c.put_rows.ensures.1 ∙ ap (λ (x : List ℕ). put_rows (s.k + 16) x s.q.now) e;
     }
 
-pub mix-rows-spec : {M : Type 1} → statement M
-mix-rows-spec =
+pub mix_rows_spec : {M : Type 1} → statement M
+mix_rows_spec =
     tie.close
     (tie.spec
-    (λ rows-requires κs. search rules)
-    (λ add-put-rows. search rules)
-    (λ next-sums-requires κs. search rules)
-    (λ mixed-requires κs. search rules)
-    (λ put-rows-requires κs. search rules)
+    (λ c κs. search rules)
+    (λ c. search rules)
+    (λ c κs. search rules)
+    (λ c κs. search rules)
+    (λ c κs. search rules)
     returns)

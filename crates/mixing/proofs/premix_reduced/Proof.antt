@@ -9,23 +9,23 @@ use Rattle.mixing.proofs.premix_reduced.Tie as tie
 
 returns : tie.Need-returns
 returns c =
-    let s = c.before.before.before.before.before.before.before.args in
-    let u = c.before.before.sum.ensures ∙ ap (λ (x : List ℕ). sum_of x s.t) c.before.before.before.cross-sums.ensures in
-    let e = c.before.sum2.ensures ∙ ap (sum_of s.a) u in
+    let s = c.args in
+    let u = c.sum.ensures ∙ ap (λ (x : List ℕ). sum_of x s.t) c.cross_sums.ensures in
+    let e = c.sum-2.ensures ∙ ap (sum_of s.a) u in
     record {
-      size = c.put-rows.ensures.0;
-      read = c.before.before.before.before.before.rows.ensures;
-      put = c.put-rows.ensures.1 ∙ ap (λ (x : List ℕ). put_rows (s.k + 32) x s.q.now) e;
+      size = c.put_rows.ensures.0;
+      read = c.rows-b.ensures;
+      put = c.put_rows.ensures.1 ∙ ap (λ (x : List ℕ). put_rows (s.k + 32) x s.q.now) e;
     }
 
-pub premix-reduced-spec : {M : Type 1} → statement M
-premix-reduced-spec =
+pub premix_reduced_spec : {M : Type 1} → statement M
+premix_reduced_spec =
     tie.close
     (tie.spec
-    (λ rows-requires κs. search rules)
-    (λ add-put-rows. search rules)
-    (λ cross-sums-requires κs. search rules)
-    (λ sum-requires κs. search rules)
-    (λ sum-requires-2 κs. search rules)
-    (λ put-rows-requires κs. search rules)
+    (λ c κs. search rules)
+    (λ c. search rules)
+    (λ c κs. search rules)
+    (λ c κs. search rules)
+    (λ c κs. search rules)
+    (λ c κs. search rules)
     returns)

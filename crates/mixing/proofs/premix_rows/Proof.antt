@@ -9,21 +9,21 @@ use Rattle.mixing.proofs.premix_rows.Tie as tie
 
 returns : tie.Need-returns
 returns c =
-    let s = c.before.before.before.before.before.before.args in
-    let e = c.before.sum.ensures ∙ ap (sum_of s.a) c.before.before.cross-sums.ensures in
+    let s = c.args in
+    let e = c.sum.ensures ∙ ap (sum_of s.a) c.cross_sums.ensures in
     record {
-      size = c.put-rows.ensures.0;
-      read = c.before.before.before.before.rows.ensures;
-      put = c.put-rows.ensures.1 ∙ ap (λ (x : List ℕ). put_rows (s.k + 32) x s.q.now) e;
+      size = c.put_rows.ensures.0;
+      read = c.rows-b.ensures;
+      put = c.put_rows.ensures.1 ∙ ap (λ (x : List ℕ). put_rows (s.k + 32) x s.q.now) e;
     }
 
-pub premix-rows-spec : {M : Type 1} → statement M
-premix-rows-spec =
+pub premix_rows_spec : {M : Type 1} → statement M
+premix_rows_spec =
     tie.close
     (tie.spec
-    (λ rows-requires κs. search rules)
-    (λ add-put-rows. search rules)
-    (λ cross-sums-requires κs. search rules)
-    (λ sum-requires κs. search rules)
-    (λ put-rows-requires κs. search rules)
+    (λ c κs. search rules)
+    (λ c. search rules)
+    (λ c κs. search rules)
+    (λ c κs. search rules)
+    (λ c κs. search rules)
     returns)

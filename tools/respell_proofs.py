@@ -16,6 +16,10 @@ import tempfile
 TOKEN = r"[^\s(){}\[\];,.:«»\"`|]+"
 
 
+# What stands behind a step's name in a path.
+OF_A_STEP = "result ensures new auto invariant true false branch is given told".split()
+
+
 def norm(word):
     word = word.lower().replace("-", "_")
     return word[: -len("_lem")] if word.endswith("_lem") else word
@@ -102,6 +106,9 @@ def paths_of(text, fields, callee, muts):
         return f"let {m.group(1)} = {m.group(2)} in" if all(uses[1:]) else m.group(0)
 
     text = re.sub(r"\blet (" + TOKEN + r") = (" + TOKEN + r")(?:\.before)+ in(?=\s)", way, text)
+    arm = re.search(r"tie\.Need-" + TOKEN + r"?-(in-[A-Z]\w*)", text) or re.search(r"tie\.(?:After|In)-(?:" + TOKEN + r"-)?([iI]n-[A-Z]\w*)", text)
+    if arm:
+        text = re.sub(TOKEN + r"(?:\.before)*\.enum[-_]told" + TOKEN + r"?\.given\.1", "c.i" + arm.group(1)[1:] + ".is", text)
     for m in re.finditer(r"\blet (" + TOKEN + r")(?: : [^\n=]*?)? = ([^\n]*?) in(?=\s)", text):
         last = re.search(r"\.(" + TOKEN + ")$", m.group(2))
         if last and last.group(1) != "before":
@@ -114,6 +121,12 @@ def paths_of(text, fields, callee, muts):
                 return names[i]
         return None
 
+    def is_place(m):
+        if m.group(1) == ")":
+            return re.match(r" in(?=\s)", text[m.end() :]) is not None
+        v = re.escape(m.group(1))
+        return m.group(1) == "c" or re.search(r"\(" + v + r" : tie\.|\blet " + v + " = ", text) is not None
+
     def path(m):
         if m.group(1) in ("tie", "use"):
             return m.group(0)
@@ -123,9 +136,11 @@ def paths_of(text, fields, callee, muts):
         if k == len(words):
             return m.group(0)
         words = words[k:]
-        if m.group(1) not in inner and norm(words[0]) in fields:
+        if m.group(1) not in inner and norm(words[0]) in fields and (words[1:2] and words[1] in OF_A_STEP or len(words) == 1 and is_place(m)):
             words[0] = fields[norm(words[0])]
             call = callee.get(words[0], call)
+        elif words[0].startswith("loop") and norm(words[0]) in fields and m.group(1) not in inner:
+            words[0] = fields[norm(words[0])]
         for k, w in enumerate(words):
             if w.isdigit() and (words[k - 1] in ("new", "auto") if k else False):
                 words[k] = lent_name(call, int(w)) or w

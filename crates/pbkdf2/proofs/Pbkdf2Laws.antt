@@ -104,4 +104,4 @@ module _ (H : Digest) (L : LawfulDigest H) (p s : List ℕ) (c : ℕ) where
 
   pub str_pbkdf2 : (n : ℕ) → Str n (pbkdf2 H p s c n)
   unfolding pbkdf2
-  str_pbkdf2 n = str_crop n (str_laid (piece_count H.size n)) (piece_count_covers H.size n (omega (arith, L.at_least_lem)))
+  str_pbkdf2 n = str_crop n (str_laid (piece_count H.size n)) (piece_count_covers H.size n (omega (arith, L.at_least)))

@@ -31,7 +31,7 @@ module _ (H : Digest) (L : LawfulDigest H) (p s : List ℕ) (c n : ℕ) where
   cropped : (k : ℕ) → suc k ≡ piece_count H.size n → take n (laid T (suc k)) ≡ laid T k ++ take (n - k * H.size) (T (suc k))
   unfolding laid
   cropped k e =
-      let i : H.size * k < n = piece_inside H.size n k (omega (arith, L.at_least_lem)) (omega arith) in
+      let i : H.size * k < n = piece_inside H.size n k (omega (arith, L.at_least)) (omega arith) in
       let m : n ≡ length (laid T k) + (n - k * H.size) = omega (arith, (str_laid H L p s c k).len, mul_comm H.size k) in
       ap (λ (j : ℕ). take j (laid T k ++ T (suc k))) m ∙ take-append-add (laid T k) (T (suc k)) (n - k * H.size)
 
@@ -39,7 +39,7 @@ module _ (H : Digest) (L : LawfulDigest H) (p s : List ℕ) (c n : ℕ) where
   unfolding pbkdf2
   key_is h =
       let l : ℕ = piece_count H.size n in
-      let some : 1 ≤ l = some_block H.size l n h (piece_count_covers H.size n (omega (arith, L.at_least_lem))) in
+      let some : 1 ≤ l = some_block H.size l n h (piece_count_covers H.size n (omega (arith, L.at_least))) in
       let e : suc (l - 1) ≡ l = omega arith in
       ap (λ (j : ℕ). take n (laid T j)) (sym e) ∙ cropped (l - 1) e
       ∙ ap (λ (j : ℕ). laid T (l - 1) ++ take (n - (l - 1) * H.size) (T j)) e

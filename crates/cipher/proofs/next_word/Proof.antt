@@ -1,8 +1,8 @@
--- `cipher::next_word_lem` meets its contract.
+-- `cipher::next_word` meets its contract.
 use Rattle.cipher.proofs.ScheduleLaws.{next_word_lem}
 use borrow.Author.Rules.{rules}
-use Rattle.cipher.proofs.next_word_lem.Statement.{statement}
-use Rattle.cipher.proofs.next_word_lem.Tie as tie
+use Rattle.cipher.proofs.next_word.Statement.{statement}
+use Rattle.cipher.proofs.next_word.Tie as tie
 
 returns : tie.Need-returns
 returns c =

@@ -8,8 +8,14 @@ use Rattle.splitter.proofs.add_stripe.Tie as tie
 
 returns : tie.Need-returns
 returns c =
-    let x = c.before.before.before.before.before.before in
-    c.before.before.diffuse-in.ensures ∙ ap (diffuse (digest_of x.before.before.before.before.args.hash)) x.xor-into.ensures
+    let x = c in
+    c.diffuse_in.ensures ∙ ap (diffuse (digest_of x.args.hash)) x.xor_into.ensures
 
-pub add-stripe-spec : {M : Type 1} → statement M
-add-stripe-spec = tie.close (tie.spec (λ xor-into-requires κs. search rules) (λ diffuse-in-requires κs. search rules) (λ same_length. search rules) returns)
+pub add_stripe_spec : {M : Type 1} → statement M
+add_stripe_spec =
+    tie.close
+    (tie.spec
+    (λ c κs. search rules)
+    (λ c κs. search rules)
+    (λ c. search rules)
+    returns)

@@ -11,44 +11,44 @@ use Rattle.splitter.proofs.FoursLaws.{diffused}
 use Rattle.splitter.proofs.diffuse_64.Statement.{statement}
 use Rattle.splitter.proofs.diffuse_64.Tie as tie
 
-slice-aggregate-copy-into : tie.Need-slice-aggregate-copy-into
+slice-aggregate-copy-into : tie.Need-slice_bounds-copy_into-end
 slice-aggregate-copy-into c =
-    let b = c.before.before.store.result in
+    let b = c.store-b.result in
     let l : length b ≡ 80 = search rules in
     sym (length-take-le 64 b (omega arith))
 
-copy-into-requires : tie.Need-copy-into-requires
+copy-into-requires : tie.Need-copy_into-requires
 copy-into-requires c κs =
-    let b = c.before.before.store.result in
+    let b = c.store-b.result in
     let l : length b ≡ 80 = search rules in
     omega (arith, length-take-le 64 b (omega arith))
 
 returns : tie.Need-returns
 returns c =
-    let b = c.before.before.before.before.before.store in
-    let r = c.before.before.before.before.before.before.compress in
-    let s = c.before.before.before.before.before.before.before.broadcast in
-    let v = c.before.before.before.before.before.before.before.before.start in
-    let p = c.before.before.before.before.before.before.before.before.before.before.load-pieces in
-    let at = c.before.before.before.before.before.before.before.before.before.before.before.before.before.before in
+    let b = c.store-b in
+    let r = c.compress in
+    let s = c.broadcast in
+    let v = c.start in
+    let p = c.load_pieces in
+    let at = c in
     let d = at.args.d.now in
     let lb : length b.result ≡ 80 = search rules in
     let e : Each (λ i. lane i r.result ≡ compress_words initial (piece_block d i)) =
     λ i h. r.ensures.1 i h ∙ ap₂ compress_words (s.ensures i h ∙ v.ensures) (p.ensures.1 i h) in
-    diffused d c.before.before.copy-into.new.0 b.result (lane 0 r.result) (lane 1 r.result) (lane 2 r.result) (lane 3 r.result) at.requires lb
-    (e 0 (omega arith)) (e 1 (omega arith)) (e 2 (omega arith)) (e 3 (omega arith)) b.ensures c.before.before.copy-into.ensures
+    diffused d c.copy_into.new.d b.result (lane 0 r.result) (lane 1 r.result) (lane 2 r.result) (lane 3 r.result) at.requires lb
+    (e 0 (omega arith)) (e 1 (omega arith)) (e 2 (omega arith)) (e 3 (omega arith)) b.ensures c.copy_into.ensures
 
-pub diffuse-64-spec : {M : Type 1} → statement M
-diffuse-64-spec =
+pub diffuse_64_spec : {M : Type 1} → statement M
+diffuse_64_spec =
     tie.close
     (tie.spec
-    (λ load-pieces-requires κs. search rules)
-    (λ start-requires κs. search rules)
-    (λ broadcast-requires κs. search rules)
-    (λ compress-requires κs. search rules)
-    (λ store-requires κs. search rules)
-    (λ array-share-prefix-b. search rules)
+    (λ c κs. search rules)
+    (λ c κs. search rules)
+    (λ c κs. search rules)
+    (λ c κs. search rules)
+    (λ c κs. search rules)
+    (λ c. search rules)
     slice-aggregate-copy-into
     copy-into-requires
-    (λ same_length. search rules)
+    (λ c. search rules)
     returns)

@@ -11,35 +11,35 @@ use Rattle.splitter.proofs.StripesLaws.{merge_from-is}
 use Rattle.splitter.proofs.merge_from.Statement.{statement}
 use Rattle.splitter.proofs.merge_from.Tie as tie
 
-slice-aggregate-add-stripes : tie.Need-slice-aggregate-add-stripes
+slice-aggregate-add-stripes : tie.Need-slice_bounds-add_stripes-end
 slice-aggregate-add-stripes c =
-    let a = c.before.before.before.before.args in
+    let a = c.args in
     sym (length-take-le (length a.stripes.now - length a.d.now) a.stripes.now (omega arith))
 
-add-stripes-requires : tie.Need-add-stripes-requires
+add-stripes-requires : tie.Need-add_stripes-requires
 add-stripes-requires c κs =
-    let a = c.before.before.before.before.args in
+    let a = c.args in
     let k = length-take-le (length a.stripes.now - length a.d.now) a.stripes.now (omega arith) in
     (omega arith, omega (arith, k))
 
 returns : tie.Need-returns
 returns c =
-    let added = c.before.before.before.before.before.before.before in
-    let a = added.before.before.before.before.before.args in
+    let added = c in
+    let a = added.args in
     let L = length a.d.now in
-    merge_from-is (diffuse (digest_of a.hash)) L a.m (length a.stripes.now - L) a.d.now added.add-stripes.new.0 _ a.stripes.now (omega arith)
-    added.add-stripes.ensures c.before.before.xor-into.ensures
+    merge_from-is (diffuse (digest_of a.hash)) L a.m (length a.stripes.now - L) a.d.now added.add_stripes.new.d _ a.stripes.now (omega arith)
+    added.add_stripes.ensures c.xor_into.ensures
 
-pub merge-from-spec : {M : Type 1} → statement M
-merge-from-spec =
+pub merge_from_spec : {M : Type 1} → statement M
+merge_from_spec =
     tie.close
     (tie.spec
-    (λ sub-k. search rules)
+    (λ c. search rules)
     slice-aggregate-add-stripes
     add-stripes-requires
-    (λ sub-xor-into. search rules)
-    (λ part-xor-into-start. search rules)
-    (λ part-xor-into-end. search rules)
-    (λ xor-into-requires κs. search rules)
-    (λ same_length. search rules)
+    (λ c. search rules)
+    (λ c. search rules)
+    (λ c. search rules)
+    (λ c κs. search rules)
+    (λ c. search rules)
     returns)

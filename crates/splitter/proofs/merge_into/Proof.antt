@@ -10,19 +10,25 @@ use Rattle.splitter.proofs.StripesLaws.{merge-is}
 use Rattle.splitter.proofs.merge_into.Statement.{statement}
 use Rattle.splitter.proofs.merge_into.Tie as tie
 
-merge-from-requires : tie.Need-merge-from-requires
+merge-from-requires : tie.Need-merge_from-requires
 merge-from-requires c κs =
-    let a = c.before.before.before.before.before.before.before.args in
-    let l : length c.before.before.before.clear.new.0 ≡ length a.d.now = search rules in
+    let a = c.args in
+    let l : length c.clear.new.d ≡ length a.d.now = search rules in
     (omega (arith, ap (λ (n : ℕ). (a.n - 1) * n) l), omega arith)
 
 returns : tie.Need-returns
 returns c =
-    let a = c.before.before.before.before.before.before.before.before.before.before.args in
-    let d = c.before.before.before.before.before.before.clear in
-    let l : length d.new.0 ≡ length a.d.now = search rules in
-    merge-is (diffuse (digest_of a.hash)) (length a.d.now) a.n d.new.0 _ a.stripes.now l d.ensures c.before.before.merge-from.ensures
+    let a = c.args in
+    let d = c.clear in
+    let l : length d.new.d ≡ length a.d.now = search rules in
+    merge-is (diffuse (digest_of a.hash)) (length a.d.now) a.n d.new.d _ a.stripes.now l d.ensures c.merge_from.ensures
 
-pub merge-into-spec : {M : Type 1} → statement M
-merge-into-spec =
-    tie.close (tie.spec (λ clear-requires κs. search rules) (λ sub-merge-from. search rules) merge-from-requires (λ same_length. search rules) returns)
+pub merge_into_spec : {M : Type 1} → statement M
+merge_into_spec =
+    tie.close
+    (tie.spec
+    (λ c κs. search rules)
+    (λ c. search rules)
+    merge-from-requires
+    (λ c. search rules)
+    returns)

@@ -106,9 +106,9 @@ def paths_of(text, fields, callee, muts):
         return f"let {m.group(1)} = {m.group(2)} in" if all(uses[1:]) else m.group(0)
 
     text = re.sub(r"\blet (" + TOKEN + r") = (" + TOKEN + r")(?:\.before)+ in(?=\s)", way, text)
-    arm = re.search(r"tie\.Need-" + TOKEN + r"?-(in-[A-Z]\w*)", text) or re.search(r"tie\.(?:After|In)-(?:" + TOKEN + r"-)?([iI]n-[A-Z]\w*)", text)
+    arm = re.search(r"tie\.Need-(?:" + TOKEN + r"-)?(in-[A-Z]\w*)", text) or re.search(r"tie\.(?:After|In)-(?:" + TOKEN + r"-)?([iI]n-[A-Z]\w*)", text)
     if arm:
-        text = re.sub(TOKEN + r"(?:\.before)*\.enum[-_]told" + TOKEN + r"?\.given\.1", "c.i" + arm.group(1)[1:] + ".is", text)
+        text = re.sub(TOKEN + r"(?:\.before)*\.enum[-_]told(?:" + TOKEN + r")?\.given\.1", "c.i" + arm.group(1)[1:] + ".is", text)
     for m in re.finditer(r"\blet (" + TOKEN + r")(?: : [^\n=]*?)? = ([^\n]*?) in(?=\s)", text):
         last = re.search(r"\.(" + TOKEN + ")$", m.group(2))
         if last and last.group(1) != "before":
@@ -197,6 +197,8 @@ def respell(text, it, muts, function):
             head = re.sub(r"\." + re.escape(o) + r"(?![\w'-])", "." + n, head)
 
     head = head.replace(".well-formed", ".well_formed")
+    head = re.sub(r"\.inv(?![\w'-])", ".invariant", head)
+    head = re.sub(r"(\((?:digest_of|compression_of) [^()]*\))\.size-[\w-]+", r"\1.size", head)
     head = re.sub(r"\.pre\b", ".requires", head)
     lines = []
     for j, m in enumerate(match):

@@ -15,26 +15,26 @@ use Rattle.pbkdf2.proofs.last_block.Tie as tie
 abbrev Last : List ℕ → List ℕ → Hash → Type 0
 Last r u h = r ≡ last_block (chain h u)
 
-returns : tie.Need-returns
+returns : tie.Need-returns-in-Sha1
 returns c =
-    let t = c.before.before in
-    subst (Last c.last_block.result t.before.before.args.u) (sym t.enum_told.given.1) (c.last_block.ensures ∙ ap last_block c.before.narrow.ensures)
+    let t = c in
+    subst (Last c.last_block.result t.args.u) (sym c.in-Sha1.is) (c.last_block.ensures ∙ ap last_block c.narrow.ensures)
 
-returns-2 : tie.Need-returns-2
+returns-2 : tie.Need-returns-in-Sha256
 returns-2 c =
-    let t = c.before in
-    let u = t.before.before.args.u in
+    let t = c in
+    let u = t.args.u in
     let l : length u ≡ 8 = search rules in
-    subst (Last c.last-block2.result u) (sym t.enum-told2.given.1) (c.last-block2.ensures ∙ ap last_block (sym (all_words u l)))
+    subst (Last c.last_block-in-Sha256.result u) (sym c.in-Sha256.is) (c.last_block-in-Sha256.ensures ∙ ap last_block (sym (all_words u l)))
 
-pub last-block-spec : {M : Type 1} → statement M
-last-block-spec =
+pub last_block_spec : {M : Type 1} → statement M
+last_block_spec =
     tie.close
     (tie.spec
-    (λ enum_told. search rules)
-    (λ narrow-requires κs. search rules)
-    (λ last-block-requires κs. search rules)
-    (λ enum-told-2. search rules)
-    (λ last-block-requires-2 κs. search rules)
+    (λ c. search rules)
+    (λ c κs. search rules)
+    (λ c κs. search rules)
+    (λ c. search rules)
+    (λ c κs. search rules)
     returns
     returns-2)

@@ -11,15 +11,15 @@ use Rattle.pbkdf2.proofs.FoursLaws.{all_blocks}
 use Rattle.pbkdf2.proofs.pbkdf2.Statement.{statement}
 use Rattle.pbkdf2.proofs.pbkdf2.Tie as tie
 
-put-rest-requires : tie.Need-put-rest-requires
+put-rest-requires : tie.Need-put_rest-requires
 put-rest-requires c κs =
-    let f = c.before.before.before.put-lanes in
-    let s = c.before.before.before.before.before.before.before.before.before.before.before in
+    let f = c.put_lanes-done in
+    let s = c in
     let d = (digest_of s.args.hash).size in (
       s.requires.2,
       s.requires.1,
-      omega (arith, f.auto.0, s.requires.3),
-      subst (λ (n : ℕ). f.result.blocks ≤ piece_count d n) (sym f.auto.0) f.ensures.0,
+      omega (arith, f.auto.out, s.requires.3),
+      subst (λ (n : ℕ). f.result.blocks ≤ piece_count d n) (sym f.auto.out) f.ensures.0,
       f.ensures.1,
       f.ensures.2,
     )
@@ -27,26 +27,26 @@ put-rest-requires c κs =
 returns : tie.Need-returns
 unfolding values_made
 returns c =
-    let r = c.before.before.put_rest in
-    let f = c.before.before.before.before.before.before.put-lanes in
-    let at = c.before.before.before.before.before.before.before.before.before.before in
-    let k = at.prepare in
-    let a = at.before.before.before.before.args in
+    let r = c.put_rest in
+    let f = c.put_lanes-done in
+    let at = c in
+    let k = at.prepare-key in
+    let a = at.args in
     let h = a.hash in
-    let l : length r.new.0 ≡ length f.new.0 = r.auto.0 in
-    let n : length r.new.0 ≡ length a.out.now = l ∙ f.auto.0 in (
+    let l : length r.new.out ≡ length f.new.out = r.auto.out in
+    let n : length r.new.out ≡ length a.out.now = l ∙ f.auto.out in (
       all_blocks h a.password.now a.salt.now (chain h k.result.inner) (chain h k.result.outer) a.count k.ensures.0 k.ensures.1
-          r.new.0 (piece_count (digest_of h).size (length f.new.0)) (ap (piece_count (digest_of h).size) (sym l)) r.ensures.0
+          r.new.out (piece_count (digest_of h).size (length f.new.out)) (ap (piece_count (digest_of h).size) (sym l)) r.ensures.0
           ∙ ap (pbkdf2 (digest_of h) a.password.now a.salt.now a.count) n,
-      r.ensures.1 ∙ ap (λ (x : ℕ). a.count * piece_count (digest_of h).size x) f.auto.0,
+      r.ensures.1 ∙ ap (λ (x : ℕ). a.count * piece_count (digest_of h).size x) f.auto.out,
     )
 
-pub pbkdf2-spec : {M : Type 1} → statement M
-pbkdf2-spec =
+pub pbkdf2_spec : {M : Type 1} → statement M
+pbkdf2_spec =
     tie.close
     (tie.spec
-    (λ prepare-requires κs. search rules)
-    (λ put-lanes-requires κs. search rules)
+    (λ c κs. search rules)
+    (λ c κs. search rules)
     put-rest-requires
-    (λ same_length. search rules)
+    (λ c. search rules)
     returns)

@@ -20,29 +20,29 @@ abbrev Done : List ℕ → List ℕ → List ℕ → ℕ → ℕ → ℕ → ℕ
 Done inner outer salt count n done made out h =
     (done ≤ piece_count (digest_of h).size n) × Holds (compression_of h) (chain h inner) (chain h outer) salt count done out × (made ≡ count * done)
 
-returns : tie.Need-returns
+returns : tie.Need-returns-in-Sha1
 returns c =
-    let q = c.before.before.put-fours in
-    let at = c.before.before.before.before in
-    let a = at.before.before.before.before.args in
-    subst (Done a.inner a.outer a.salt.now a.count (length a.out.now) _ q.result q.new.0) (sym at.enum_told.given.1) (omega arith, q.ensures.0, q.ensures.1)
+    let q = c.put_fours-made in
+    let at = c in
+    let a = at.args in
+    subst (Done a.inner a.outer a.salt.now a.count (length a.out.now) _ q.result q.new.out) (sym c.in-Sha1.is) (omega arith, q.ensures.0, q.ensures.1)
 
-returns-2 : tie.Need-returns-2
+returns-2 : tie.Need-returns-in-Sha256
 unfolding laid
 returns-2 c =
-    let a = c.before.before.before.before.args in
-    subst (Done a.inner a.outer a.salt.now a.count (length a.out.now) 0 0 a.out.now) (sym c.enum-told2.given.1)
+    let a = c.args in
+    subst (Done a.inner a.outer a.salt.now a.count (length a.out.now) 0 0 a.out.now) (sym c.in-Sha256.is)
     (omega arith, sym (take-nil (length a.out.now)), sym (mul-zero a.count))
 
-pub put-lanes-spec : {M : Type 1} → statement M
-put-lanes-spec =
+pub put_lanes_spec : {M : Type 1} → statement M
+put_lanes_spec =
     tie.close
     (tie.spec
-    (λ enum_told. search rules)
-    (λ add-groups. search rules)
-    (λ put-fours-requires κs. search rules)
-    (λ mul-t10. search rules)
-    (λ enum-told-2. search rules)
-    (λ same_length. search rules)
+    (λ c. search rules)
+    (λ c. search rules)
+    (λ c κs. search rules)
+    (λ c. search rules)
+    (λ c. search rules)
+    (λ c. search rules)
     returns
     returns-2)

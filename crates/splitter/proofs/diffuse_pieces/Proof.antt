@@ -17,7 +17,7 @@ use Rattle.splitter.proofs.diffuse_pieces.Tie as tie
 abbrev invariant_loop : tie.invariant-loop-at
 invariant_loop s₀ hash len size i₀ at₀ s i at =
     (at ≤ length s₀) × (i ≤ at) × (length s ≡ length s₀)
-    × (take at s ++ in_pieces (digest_of hash).size-size (piece_digest (digest_of hash)) i (drop at s) ≡ diffuse (digest_of hash) s₀)
+    × (take at s ++ in_pieces (digest_of hash).size (piece_digest (digest_of hash)) i (drop at s) ≡ diffuse (digest_of hash) s₀)
 
 abbrev decreases_loop : tie.decreases-loop-at
 decreases_loop s₀ hash len size i₀ at₀ s i at = length s₀ - at

@@ -69,7 +69,7 @@ loop-again c =
     let t = turn c.before in
     let i = t.loop.i in
     let well = and_both (leb 33 (byte t)) (leb (byte t) 126) (le-leb 33 (byte t) c.before.before.if2.false) (le-leb (byte t) 126 c.if3.false) in
-    (omega arith, every_yes in_range 0 (uuid t) i (printable (uuid t)) t.loop.inv.1 (omega arith) well)
+    (omega arith, every_yes in_range 0 (uuid t) i (printable (uuid t)) t.loop.invariant.1 (omega arith) well)
 
 returns-4 : tie.Need-returns-4 invariant_loop decreases_loop
 returns-4 c =

@@ -8,12 +8,12 @@ returns : tie.Need-returns
 unfolding prf_words
 returns c = cc
 
-pub prf-words-spec : {M : Type 1} → statement M
-prf-words-spec =
+pub prf_words_spec : {M : Type 1} → statement M
+prf_words_spec =
     tie.close
     (tie.spec
-    (λ last-block-requires κs. search rules)
-    (λ compress-words-requires κs. search rules)
-    (λ last-block-requires-2 κs. search rules)
-    (λ compress-words-requires-2 κs. search rules)
+    (λ c κs. search rules)
+    (λ c κs. search rules)
+    (λ c κs. search rules)
+    (λ c κs. search rules)
     returns)

@@ -10,28 +10,28 @@ use Rattle.pbkdf2.proofs.eight.xor_words.Tie as tie
 returns : tie.Need-returns
 unfolding xors ◌⊕◌
 returns c =
-    let la : length c.args.t1 ≡ 8 = search rules in
-    let lb : length c.args.t2 ≡ 8 = search rules in
-    sym (ap₂ xors (all_elements 0 8 c.args.t1 la) (all_elements 0 8 c.args.t2 lb))
+    let la : length c.args.a ≡ 8 = search rules in
+    let lb : length c.args.b ≡ 8 = search rules in
+    sym (ap₂ xors (all_elements 0 8 c.args.a la) (all_elements 0 8 c.args.b lb))
 
-pub xor-words-spec : {M : Type 1} → statement M
-xor-words-spec =
+pub xor_words_spec : {M : Type 1} → statement M
+xor_words_spec =
     tie.close
     (tie.spec
-    (λ array-read-t7. search rules)
-    (λ array-read-t10. search rules)
-    (λ array-read-t14. search rules)
-    (λ array-read-t17. search rules)
-    (λ array-read-t21. search rules)
-    (λ array-read-t24. search rules)
-    (λ array-read-t28. search rules)
-    (λ array-read-t31. search rules)
-    (λ array-read-t35. search rules)
-    (λ array-read-t38. search rules)
-    (λ array-read-t42. search rules)
-    (λ array-read-t45. search rules)
-    (λ array-read-t49. search rules)
-    (λ array-read-t52. search rules)
-    (λ array-read-t56. search rules)
-    (λ array-read-t59. search rules)
+    (λ c. search rules)
+    (λ c. search rules)
+    (λ c. search rules)
+    (λ c. search rules)
+    (λ c. search rules)
+    (λ c. search rules)
+    (λ c. search rules)
+    (λ c. search rules)
+    (λ c. search rules)
+    (λ c. search rules)
+    (λ c. search rules)
+    (λ c. search rules)
+    (λ c. search rules)
+    (λ c. search rules)
+    (λ c. search rules)
+    (λ c. search rules)
     returns)

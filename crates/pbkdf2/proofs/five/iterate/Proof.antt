@@ -9,38 +9,38 @@ use Rattle.pbkdf2.proofs.Pbkdf2Laws.{Values, one_value, more_values}
 use Rattle.pbkdf2.proofs.five.iterate.Statement.{statement}
 use Rattle.pbkdf2.proofs.five.iterate.Tie as tie
 
-abbrev invariant_loop : tie.invariant_loop
+abbrev invariant_loop : tie.invariant-loop-k
 invariant_loop inner outer count u₀ t₀ made₀ k₀ u t made k =
     (k ≤ count) × Values (prf_words compression inner outer) u₀ k u t × (made ≡ k - 1)
 
-abbrev decreases_loop : tie.decreases_loop
+abbrev decreases_loop : tie.decreases-loop-k
 decreases_loop inner outer count u₀ t₀ made₀ k₀ u t made k = count - k
 
-loop-holds : tie.Need-loop-init invariant_loop decreases_loop
+loop-holds : tie.Need-loop-k-init invariant_loop decreases_loop
 loop-holds c = (omega arith, one_value _ _, refl)
 
-loop-again : tie.Need-loop-preserved invariant_loop decreases_loop
+loop-again : tie.Need-loop-k-preserved invariant_loop decreases_loop
 loop-again c =
-    let l = c.before.before.before.loop in
-    (omega arith, more_values l.invariant.1 c.before.prf-words.ensures c.xor-words.ensures, omega (arith, l.invariant.1.some, l.invariant.2))
+    let l = c.loop-k in
+    (omega arith, more_values l.invariant.1 c.prf_words-v.ensures c.xor_words-x.ensures, omega (arith, l.invariant.1.some, l.invariant.2))
 
 returns : tie.Need-returns invariant_loop decreases_loop
 returns c =
     let at = c.before in
-    let e : at.loop.k ≡ at.before.args.count = omega arith in
-    (rw e at at.loop.invariant.1.sum, rw e at at.loop.invariant.2)
+    let e : at.loop-k.k ≡ at.args.count = omega arith in
+    (rw e at at.loop-k.invariant.1.sum, rw e at at.loop-k.invariant.2)
 
-pub iterate-spec : {M : Type 1} → statement M
-iterate-spec =
+pub iterate_spec : {M : Type 1} → statement M
+iterate_spec =
     tie.close
     (tie.spec
     invariant_loop
     decreases_loop
     loop-holds
-    (λ prf-words-requires κs. search rules)
-    (λ xor-words-requires κs. search rules)
-    (λ add-made. search rules)
-    (λ add-k. search rules)
-    (λ loop-less. search rules)
+    (λ c κs. search rules)
+    (λ c κs. search rules)
+    (λ c. search rules)
+    (λ c. search rules)
+    (λ c. search rules)
     loop-again
     returns)

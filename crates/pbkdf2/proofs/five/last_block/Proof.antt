@@ -11,17 +11,17 @@ use Rattle.pbkdf2.proofs.five.last_block.Tie as tie
 returns : tie.Need-returns
 unfolding last_block padding_words zeros
 returns c =
-    let u = c.args.t1 in
+    let u = c.args.u in
     let l : length u ≡ 5 = search rules in
     ap last_block (sym (all_elements 0 5 u l))
 
-pub last-block-spec : {M : Type 1} → statement M
-last-block-spec =
+pub last_block_spec : {M : Type 1} → statement M
+last_block_spec =
     tie.close
     (tie.spec
-    (λ array-read-t5. search rules)
-    (λ array-read-t8. search rules)
-    (λ array-read-t11. search rules)
-    (λ array-read-t14. search rules)
-    (λ array-read-t17. search rules)
+    (λ c. search rules)
+    (λ c. search rules)
+    (λ c. search rules)
+    (λ c. search rules)
+    (λ c. search rules)
     returns)

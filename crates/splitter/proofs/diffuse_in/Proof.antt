@@ -9,9 +9,8 @@ use Rattle.splitter.proofs.diffuse_in.Tie as tie
 
 returns : tie.Need-returns-then-d-eq64
 returns c =
-    let told = c in
-    let d = told.args.d.now in
-    c.diffuse_64.ensures ∙ ap (λ (h : Hash). diffuse (digest_of h) d) (sym told.enum_told-1.given.1)
+    let d = c.args.d.now in
+    c.diffuse_64.ensures ∙ ap (λ (h : Hash). diffuse (digest_of h) d) (sym c.in-Sha1.is)
 
 pub diffuse_in_spec : {M : Type 1} → statement M
 diffuse_in_spec =

@@ -4,11 +4,15 @@ use borrow.Author.Rules.{rules}
 use Rattle.cipher.proofs.double.Statement.{statement}
 use Rattle.cipher.proofs.double.Tie as tie
 
-sub-result : tie.Need-overflow-sub-result
+sub-result : tie.Need-overflow_sub-result
 sub-result c = mask-room c.args.a (search rules)
 
 returns : tie.Need-returns
 returns c = doubled c.args.a (search rules)
 
-pub double-spec : {M : Type 1} → statement M
-double-spec = tie.close (tie.spec sub-result returns)
+pub double_spec : {M : Type 1} → statement M
+double_spec =
+    tie.close
+    (tie.spec
+    sub-result
+    returns)

@@ -6,12 +6,17 @@ use Rattle.cipher.proofs.inv_last_round.Tie as tie
 
 returns : tie.Need-returns
 returns c =
-    let a = c.before.before.before.before.before.before.before.before.args in
-    let x = c.before.before.before.before.xor-words in
-    let y = c.before.before.inv-sub-bytes in
-    let r = c.inv-shift-rows in
-    (r.ensures.0, λ j h. inv_last-each a.q.now r.new.0 a.k.now j h x.new.0 y.new.0 a.l.now x.ensures.1 y.ensures.1 (r.ensures.1 j h))
+    let a = c.args in
+    let x = c.xor_words in
+    let y = c.inv_sub_bytes in
+    let r = c.inv_shift_rows in
+    (r.ensures.0, λ j h. inv_last-each a.q.now r.new.q a.k.now j h x.new.q y.new.q a.l.now x.ensures.1 y.ensures.1 (r.ensures.1 j h))
 
-pub inv-last-round-spec : {M : Type 1} → statement M
-inv-last-round-spec =
-    tie.close (tie.spec (λ xor-words-requires κs. search rules) (λ inv-sub-bytes-requires κs. search rules) (λ inv-shift-rows-requires κs. search rules) returns)
+pub inv_last_round_spec : {M : Type 1} → statement M
+inv_last_round_spec =
+    tie.close
+    (tie.spec
+    (λ c κs. search rules)
+    (λ c κs. search rules)
+    (λ c κs. search rules)
+    returns)

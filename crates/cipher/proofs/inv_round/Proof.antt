@@ -6,13 +6,17 @@ use Rattle.cipher.proofs.inv_round.Tie as tie
 
 returns : tie.Need-returns
 returns c =
-    let a = c.before.before.before.before.before.before.before.args in
-    let x = c.before.before.before.before.inv-mix-columns in
-    let y = c.before.before.inv-sub-bytes in
-    let r = c.inv-shift-rows in
-    (r.ensures.0, λ j h. inv_round-each a.q.now r.new.0 a.k.now j h x.new.0 y.new.0 x.ensures.1 y.ensures.1 (r.ensures.1 j h))
+    let a = c.args in
+    let x = c.inv_mix_columns in
+    let y = c.inv_sub_bytes in
+    let r = c.inv_shift_rows in
+    (r.ensures.0, λ j h. inv_round-each a.q.now r.new.q a.k.now j h x.new.q y.new.q x.ensures.1 y.ensures.1 (r.ensures.1 j h))
 
-pub inv-round-spec : {M : Type 1} → statement M
-inv-round-spec =
+pub inv_round_spec : {M : Type 1} → statement M
+inv_round_spec =
     tie.close
-    (tie.spec (λ inv-mix-columns-requires κs. search rules) (λ inv-sub-bytes-requires κs. search rules) (λ inv-shift-rows-requires κs. search rules) returns)
+    (tie.spec
+    (λ c κs. search rules)
+    (λ c κs. search rules)
+    (λ c κs. search rules)
+    returns)

@@ -6,12 +6,17 @@ use Rattle.cipher.proofs.last_round.Tie as tie
 
 returns : tie.Need-returns
 returns c =
-    let a = c.before.before.before.before.before.before.before.before.args in
-    let x = c.before.before.before.before.shift-rows in
-    let y = c.before.before.sub-bytes in
-    let r = c.xor-words in
-    (r.ensures.0, λ j h. last-each a.q.now r.new.0 a.k.now j h x.new.0 y.new.0 a.l.now (x.ensures.1 j h) y.ensures.1 r.ensures.1)
+    let a = c.args in
+    let x = c.shift_rows in
+    let y = c.sub_bytes in
+    let r = c.xor_words in
+    (r.ensures.0, λ j h. last-each a.q.now r.new.q a.k.now j h x.new.q y.new.q a.l.now (x.ensures.1 j h) y.ensures.1 r.ensures.1)
 
-pub last-round-spec : {M : Type 1} → statement M
-last-round-spec =
-    tie.close (tie.spec (λ shift-rows-requires κs. search rules) (λ sub-bytes-requires κs. search rules) (λ xor-words-requires κs. search rules) returns)
+pub last_round_spec : {M : Type 1} → statement M
+last_round_spec =
+    tie.close
+    (tie.spec
+    (λ c κs. search rules)
+    (λ c κs. search rules)
+    (λ c κs. search rules)
+    returns)

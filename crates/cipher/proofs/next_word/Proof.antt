@@ -6,19 +6,19 @@ use Rattle.cipher.proofs.next_word.Tie as tie
 
 returns : tie.Need-returns
 returns c =
-    let a = c.before.before.before.before.args in
-    next_word_lem a.nk a.i c.before.before.word_at.result c.before.word-at2.result c.temp_word.result a.w.now c.before.before.word_at.ensures
-    c.before.word-at2.ensures c.temp_word.ensures
+    let a = c.args in
+    next_word_lem a.nk a.i c.word_at.result c.word_at-2.result c.temp_word.result a.w.now c.word_at.ensures
+    c.word_at-2.ensures c.temp_word.ensures
 
-pub next-word-spec : {M : Type 1} → statement M
-next-word-spec =
+pub next_word_spec : {M : Type 1} → statement M
+next_word_spec =
     tie.close
     (tie.spec
-    (λ sub-word-at. search rules)
-    (λ mul-word-at. search rules)
-    (λ word-at-requires κs. search rules)
-    (λ sub-word-at-2. search rules)
-    (λ mul-word-at-2. search rules)
-    (λ word-at-requires-2 κs. search rules)
-    (λ temp-word-requires κs. search rules)
+    (λ c. search rules)
+    (λ c. search rules)
+    (λ c κs. search rules)
+    (λ c. search rules)
+    (λ c. search rules)
+    (λ c κs. search rules)
+    (λ c κs. search rules)
     returns)

@@ -6,12 +6,17 @@ use Rattle.cipher.proofs.round.Tie as tie
 
 returns : tie.Need-returns
 returns c =
-    let a = c.before.before.before.before.before.before.before.args in
-    let x = c.before.before.before.before.shift-rows in
-    let y = c.before.before.sub-bytes in
-    let r = c.mix-columns in
-    (r.ensures.0, λ j h. round-each a.q.now r.new.0 a.k.now j h x.new.0 y.new.0 (x.ensures.1 j h) y.ensures.1 r.ensures.1)
+    let a = c.args in
+    let x = c.shift_rows in
+    let y = c.sub_bytes in
+    let r = c.mix_columns in
+    (r.ensures.0, λ j h. round-each a.q.now r.new.q a.k.now j h x.new.q y.new.q (x.ensures.1 j h) y.ensures.1 r.ensures.1)
 
-pub round-spec : {M : Type 1} → statement M
-round-spec =
-    tie.close (tie.spec (λ shift-rows-requires κs. search rules) (λ sub-bytes-requires κs. search rules) (λ mix-columns-requires κs. search rules) returns)
+pub round_spec : {M : Type 1} → statement M
+round_spec =
+    tie.close
+    (tie.spec
+    (λ c κs. search rules)
+    (λ c κs. search rules)
+    (λ c κs. search rules)
+    returns)

@@ -7,26 +7,26 @@ use Rattle.xts.proofs.GroupLaws.{unit_under, next-inside, next-whole, from_first
 use Rattle.xts.proofs.run_group.Statement.{statement}
 use Rattle.xts.proofs.run_group.Tie as tie
 
-abbrev invariant_loop : tie.invariant_loop
+abbrev invariant_loop : tie.invariant-loop-at
 invariant_loop s₀ first forward ks vs n t len at₀ s at =
     (at ≤ length s₀) × (at % 16 ≡ 0) × (length s ≡ length s₀)
     × ((f : ℕ → List ℕ → List ℕ) → Under forward n ks vs f → take at s ++ in_units f (first + at / 512) (drop at s) ≡ in_units f first s₀)
 
-abbrev decreases_loop : tie.decreases_loop
+abbrev decreases_loop : tie.decreases-loop-at
 decreases_loop s₀ first forward ks vs n t len at₀ s at = length s₀ - at
 
-loop-holds : tie.Need-loop-init invariant_loop decreases_loop
-loop-holds c = (omega arith, omega arith, refl, λ f g. from_first f c.before.before.before.before.args.first c.before.before.before.before.args.s.now)
+loop-holds : tie.Need-loop-at-init invariant_loop decreases_loop
+loop-holds c = (omega arith, omega arith, refl, λ f g. from_first f c.args.first c.args.s.now)
 
-loop-again : tie.Need-loop-preserved invariant_loop decreases_loop
+loop-again : tie.Need-loop-at-preserved invariant_loop decreases_loop
 loop-again c =
-    let z = c.before.before.before.before.before.before.before.before.before.before.before.before.before in
+    let z = c in
     let a = z.args in
-    let l = c.before.before.before.before.before.before.before.before.loop in
-    let t = c.before.before.before.before.before.before.before.before.before.first-tweaks in
-    let x = c.before.before.before.before.before.tweak-at in
-    let k = c.before.before.before.before.min in
-    let y = c.before.before.run-blocks in
+    let l = c.loop-at in
+    let t = c.first_tweaks-t in
+    let x = c.tweak_at-x in
+    let k = c.min-k in
+    let y = c.run_blocks in
     let i₀ : l.at ≤ length a.s.now = l.invariant.0 in
     let n : length l.s ≡ length a.s.now = l.invariant.2 in
     let top : a.first + length a.s.now < 2 ^ 64 = z.requires.2 in
@@ -34,36 +34,36 @@ loop-again c =
       next-inside 512 l.at k.result (length a.s.now) i₀ k₁,
       next-whole 512 l.at k.result (length a.s.now) refl i₀ z.requires.1 l.invariant.1 k₁,
       search rules,
-      λ f g. unit_more l.at k.result l.s y.new.0 _ (omega arith) (search rules)
+      λ f g. unit_more l.at k.result l.s y.new.s _ (omega arith) (search rules)
           f (a.first + l.at / 512) (a.first + (l.at + k.result) / 512) (l.invariant.3 f g) (omega (arith, k₁, n))
           (λ h. omega (arith, h, k₁, n))
-          (unit_under a.forward a.n a.first (l.at / 512) (a.first + l.at / 512) a.ks.now a.vs.now t.result (tweak_bytes x.result) y.new.0 _ f g
+          (unit_under a.forward a.n a.first (l.at / 512) (a.first + l.at / 512) a.ks.now a.vs.now t.result (tweak_bytes x.result) y.new.s _ f g
           t.ensures (omega arith) refl (omega arith) x.ensures y.ensures),
     )
 
 returns : tie.Need-returns invariant_loop decreases_loop
 returns c =
-    let l = c.before.loop in
-    let a = c.before.before.before.before.before.before.args in
+    let l = c.loop-at in
+    let a = c.args in
     λ f g. unit_last f l.at (a.first + l.at / 512) l.s _ (omega arith) (l.invariant.3 f g)
 
-pub run-group-spec : {M : Type 1} → statement M
-run-group-spec =
+pub run_group_spec : {M : Type 1} → statement M
+run_group_spec =
     tie.close
     (tie.spec
     invariant_loop
     decreases_loop
-    (λ first-tweaks-requires κs. search rules)
+    (λ c κs. search rules)
     loop-holds
-    (λ tweak-at-requires κs. search rules)
-    (λ sub-min. search rules)
-    (λ min-requires κs. search rules)
-    (λ add-e. search rules)
-    (λ sub-run-blocks. search rules)
-    (λ part-run-blocks-start. search rules)
-    (λ part-run-blocks-end. search rules)
-    (λ run-blocks-requires κs. search rules)
-    (λ loop-less. search rules)
+    (λ c κs. search rules)
+    (λ c. search rules)
+    (λ c κs. search rules)
+    (λ c. search rules)
+    (λ c. search rules)
+    (λ c. search rules)
+    (λ c. search rules)
+    (λ c κs. search rules)
+    (λ c. search rules)
     loop-again
-    (λ same_length. search rules)
+    (λ c. search rules)
     returns)

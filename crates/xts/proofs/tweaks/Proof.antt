@@ -5,59 +5,59 @@ use Rattle.xts.proofs.GroupLaws.{Stored, stored_none, stored_more, four-words, t
 use Rattle.xts.proofs.tweaks.Statement.{statement}
 use Rattle.xts.proofs.tweaks.Tie as tie
 
-abbrev invariant_loop : tie.invariant_loop
+abbrev invariant_loop : tie.invariant-loop-b
 invariant_loop u₀ t₀ b₀ u t b = (b ≤ 32) × (tweak_bytes t ≡ tweak_at b (tweak_bytes t₀)) × Stored (λ m. tweak_at m (tweak_bytes t₀)) b u
 
-abbrev decreases_loop : tie.decreases_loop
+abbrev decreases_loop : tie.decreases-loop-b
 decreases_loop u₀ t₀ b₀ u t b = 32 - b
 
-loop-holds : tie.Need-loop-init invariant_loop decreases_loop
+loop-holds : tie.Need-loop-b-init invariant_loop decreases_loop
 unfolding tweak_at
 loop-holds c =
     let z : List ℕ = replicate 128 0 in
     (omega arith, refl, stored_none (λ m. tweak_at m (tweak_bytes c.args.first)) z refl)
 
-loop-again : tie.Need-loop-preserved invariant_loop decreases_loop
+loop-again : tie.Need-loop-b-preserved invariant_loop decreases_loop
 unfolding tweak_bytes
 loop-again c =
-    let l = c.before.before.before.before.before.before.loop in
-    let f = c.before.before.before.before.before.before.before.args.first in (
+    let l = c.loop-b in
+    let f = c.args.first in (
       omega arith,
-      tweak_next l.b (tweak_bytes f) (tweak_bytes l.t) (tweak_bytes c.double.result) l.invariant.1 c.double.ensures,
+      tweak_next l.b (tweak_bytes f) (tweak_bytes l.t) (tweak_bytes c.double-t.result) l.invariant.1 c.double-t.ensures,
       stored_more (λ m. tweak_at m (tweak_bytes f)) l.u l.b _ _ _ _ (search rules) (four-words l.t.low l.t.high ∙ l.invariant.1) l.invariant.2,
     )
 
 returns : tie.Need-returns invariant_loop decreases_loop
 returns c =
-    let l = c.before.loop in
+    let l = c.loop-b in
     let e : l.b ≡ 32 = omega arith in
     λ b h. l.invariant.2.new b (omega arith)
 
-pub tweaks-spec : {M : Type 1} → statement M
-tweaks-spec =
+pub tweaks_spec : {M : Type 1} → statement M
+tweaks_spec =
     tie.close
     (tie.spec
     invariant_loop
     decreases_loop
     loop-holds
-    (λ mul-k. search rules)
-    (λ cast-u. search rules)
-    (λ mul-u. search rules)
-    (λ array-write-u. search rules)
-    (λ cast-u-2. search rules)
-    (λ add-u. search rules)
-    (λ mul-u-2. search rules)
-    (λ array-write-u-2. search rules)
-    (λ cast-u-3. search rules)
-    (λ add-u-2. search rules)
-    (λ mul-u-3. search rules)
-    (λ array-write-u-3. search rules)
-    (λ cast-u-4. search rules)
-    (λ add-u-3. search rules)
-    (λ mul-u-4. search rules)
-    (λ array-write-u-4. search rules)
-    (λ double-requires κs. search rules)
-    (λ add-b. search rules)
-    (λ loop-less. search rules)
+    (λ c. search rules)
+    (λ c. search rules)
+    (λ c. search rules)
+    (λ c. search rules)
+    (λ c. search rules)
+    (λ c. search rules)
+    (λ c. search rules)
+    (λ c. search rules)
+    (λ c. search rules)
+    (λ c. search rules)
+    (λ c. search rules)
+    (λ c. search rules)
+    (λ c. search rules)
+    (λ c. search rules)
+    (λ c. search rules)
+    (λ c. search rules)
+    (λ c κs. search rules)
+    (λ c. search rules)
+    (λ c. search rules)
     loop-again
     returns)

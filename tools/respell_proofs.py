@@ -48,6 +48,16 @@ def lent(crate):
     return out
 
 
+def named(crate):
+    """The names of the parameters of each function of the crate, by the function's name."""
+    out = {}
+    for f in glob.glob(f"crates/{crate}/src/**/*.rt", recursive=True):
+        text = open(f, encoding="utf-8").read()
+        for m in re.finditer(r"\bfn (\w+)(?:<[^>]*>)?\(([^{]*?)\)\s*(?:->|requires|ensures|where|\{)", text, re.S):
+            out.setdefault(m.group(1), set()).update(re.findall(r"(\w+)\s*:\s", m.group(2)))
+    return out
+
+
 def entries(text):
     """What stands before the proof itself, the line that states it, and the entries of its list."""
     m = re.search(r"^pub " + TOKEN + r" : \{M.*$", text, re.M)
@@ -149,7 +159,7 @@ def paths_of(text, fields, callee, muts):
     return re.sub(r"(\)|" + TOKEN + r")((?:\." + TOKEN + ")+)", path, text)
 
 
-def respell(text, it, muts, function):
+def respell(text, it, muts, params, function):
     cut = entries(text)
     if cut is None:
         return None, ["no list"]
@@ -190,6 +200,10 @@ def respell(text, it, muts, function):
 
     head = "\n\n".join(paths_of(part, fields, callee, muts) for part in head.split("\n\n"))
 
+    # parameters by their names in the source
+    for name in params.get(function, ()):
+        if "_" in name:
+            head = re.sub(r"\." + name.replace("_", "-") + r"(?![\w'-])", "." + name, head)
     # parameters that had a number, and what is told of them
     for o, n in it["args"]:
         o, n = o.split(" .")[-1].lstrip("."), n.split(" .")[-1].lstrip(".")
@@ -215,11 +229,12 @@ def respell(text, it, muts, function):
 def main(argv):
     muts = lent(None)
     for crate in argv:
+        params = named(crate)
         for path, it in sorted(lists(crate).items()):
             f = f"crates/{crate}/proofs/{path}/Proof.antt"
             if not os.path.exists(f):
                 continue
-            text, notes = respell(open(f, encoding="utf-8").read(), it, muts, path.split("/")[-1])
+            text, notes = respell(open(f, encoding="utf-8").read(), it, muts, params, path.split("/")[-1])
             for n in notes:
                 print(f"{f}: {n}")
             if text:

@@ -17,17 +17,23 @@ unknown : (n : ℕ) → known rows n ≡ false → Sha1 ≡ hash_of n
 unfolding known hash_of aes_xts_row rows
 unknown n e = rw (ne_eqb n 3 (λ p. no (sym e ∙ ap (known rows) p)), ne_eqb n 4 (λ p. no (sym e ∙ ap (known rows) p)))
 
-returns : tie.Need-returns
-returns c = unknown _ (fails c.before.is_Known.ensures c.if1.true)
+returns : tie.Need-returns-then-not-is_known
+returns c = unknown _ (fails c.is_known.ensures c.if-not-is_known.true)
 
-has_row : (c : tie.Else1) → known rows c.before.before.args.number ≡ true
-has_row c = holds c.before.is_Known.ensures c.if1.false
+has_row : (c : tie.Else-not-is_known) → known rows c.args.number ≡ true
+has_row c = holds c.is_known.ensures c.if-not-is_known.false
 
-profile-at-requires : tie.Need-profile-at-requires
+profile-at-requires : tie.Need-profile_at-p-requires
 profile-at-requires c κs = has_row c
 
-returns-2 : tie.Need-returns-2
-returns-2 c = c.profile-at.ensures.digest_is ∙ ap hash_of (number_at rows c.before.before.before.args.number (has_row c.before))
+returns-2 : tie.Need-returns
+returns-2 c = c.profile_at-p.ensures.digest_is ∙ ap hash_of (number_at rows c.args.number (has_row c.before))
 
-pub hash-of-spec : {M : Type 1} → statement M
-hash-of-spec = tie.close (tie.spec (λ is-known-requires κs. search rules) returns profile-at-requires returns-2)
+pub hash_of_spec : {M : Type 1} → statement M
+hash_of_spec =
+    tie.close
+    (tie.spec
+    (λ c κs. search rules)
+    returns
+    profile-at-requires
+    returns-2)

@@ -10,10 +10,16 @@ use Rattle.keyslot.proofs.last_group.Tie as tie
 
 returns : tie.Need-returns
 returns c =
-    let a = c.before.before.before.before.before.before.before.before.before.before.before.before.before.before.args in
-    λ f g. c.before.before.merge-from.ensures
-    ∙ ap (merge_from (diffuse (digest_of a.hash)) (length a.d.now) a.d.now a.m) (c.before.before.before.before.before.before.before.decipher.ensures f g)
+    let a = c.args in
+    λ f g. c.merge_from.ensures
+    ∙ ap (merge_from (diffuse (digest_of a.hash)) (length a.d.now) a.d.now a.m) (c.decipher.ensures f g)
 
-pub last-group-spec : {M : Type 1} → statement M
-last-group-spec =
-    tie.close (tie.spec (λ decipher-requires κs. search rules) (λ merge-from-requires κs. search rules) (λ same_length. search rules) (λ same-length-2. search rules) returns)
+pub last_group_spec : {M : Type 1} → statement M
+last_group_spec =
+    tie.close
+    (tie.spec
+    (λ c κs. search rules)
+    (λ c κs. search rules)
+    (λ c. search rules)
+    (λ c. search rules)
+    returns)

@@ -22,78 +22,78 @@ use borrow.Author.Rules.{rules}
 use Rattle.keyslot.proofs.merge_groups.Statement.{statement}
 use Rattle.keyslot.proofs.merge_groups.Tie as tie
 
-abbrev invariant_loop : tie.invariant_loop
+abbrev invariant_loop : tie.invariant-loop-at
 invariant_loop d₀ hash area n ks vs rounds per len b₀ at₀ left₀ d b at left =
     (at < len) × (at % 16 ≡ 0) × (1 ≤ left) × (left * length d₀ ≡ len - at) × (length d ≡ length d₀) × (length b ≡ 16384)
     × ((f : ℕ → List ℕ → List ℕ) → Under false rounds ks vs f
     → merge_from (diffuse (digest_of hash)) (length d₀) d (left - 1) (in_units f (at / 512) (drop at area)) ≡ merge_from (diffuse (digest_of hash)) (length d₀) d₀ (n - 1) (in_units f 0 area))
 
-abbrev decreases_loop : tie.decreases_loop
+abbrev decreases_loop : tie.decreases-loop-at
 decreases_loop d₀ hash area n ks vs rounds per len b₀ at₀ left₀ d b at left = len - at
 
-loop-holds : tie.Need-loop-init invariant_loop decreases_loop
+loop-holds : tie.Need-loop-at-init invariant_loop decreases_loop
 loop-holds c =
-    let s = c.before.before.before.before.before.before.before.before.before in
-    let L = length c.before.before.before.clear.new.0 in
+    let s = c in
+    let L = length c.clear.new.d in
     let e : L ≡ length s.args.d.now = search rules in
     let b : s.args.n * L ≡ length s.args.area.now = ap (λ (k : ℕ). s.args.n * k) e ∙ s.requires.1 in
     let m : 1 * L ≤ s.args.n * L = mul-le-mul_right L s.requires.0 in
     (omega arith, omega arith, omega arith, omega arith, refl, length-replicate {A = ℕ} 16384 0, λ f g. refl)
 
-whole-group-requires : tie.Need-whole-group-requires invariant_loop decreases_loop
+whole-group-requires : tie.Need-whole_group-requires invariant_loop decreases_loop
 unfolding part
 whole-group-requires c κs =
-    let w = c.before.before.before.before in
-    let l = w.loop in
-    let s = w.before.before.before.before.before.before.before.before.before.before in
+    let w = c in
+    let l = w.loop-at in
+    let s = w in
     let x = take (l.at + 16384 - l.at) (drop l.at s.args.area.now) in
     let k : length x ≡ l.at + 16384 - l.at = length_part s.args.area.now l.at (l.at + 16384 - l.at) (omega arith) in
     let n : length x ≡ 16384 = k ∙ omega arith in
-    let p = w.before.per-group in
+    let p = w.per_group-per in
     (l.invariant.5 ∙ sym n, omega (arith, n), omega (arith, n), s.requires.5, s.requires.6, n ∙ sym (ap (λ (j : ℕ). p.result * j) l.invariant.4 ∙ p.ensures), omega arith)
 
-sub-left : tie.Need-overflow-sub-left invariant_loop decreases_loop
+sub-left : tie.Need-overflow_sub-left invariant_loop decreases_loop
 sub-left c =
-    let w = c.before.before.before.before.before.before.before.before in
-    let h = more_left (length w.before.before.before.before.clear.new.0) w.before.per-group.result w.loop.left w.before.per-group.ensures (omega arith) in
+    let w = c in
+    let h = more_left (length w.clear.new.d) w.per_group-per.result w.loop-at.left w.per_group-per.ensures (omega arith) in
     omega (arith, h)
 
-loop-again : tie.Need-loop-preserved invariant_loop decreases_loop
+loop-again : tie.Need-loop-at-preserved invariant_loop decreases_loop
 unfolding part
 loop-again c =
-    let w = c.before.before.before.before.before.before.before.before in
-    let l = w.loop in
-    let p = w.before.per-group in
-    let d₁ = w.before.before.before.before.clear.new.0 in
+    let w = c in
+    let l = w.loop-at in
+    let p = w.per_group-per in
+    let d₁ = w.clear.new.d in
     let L = length d₁ in
-    let a = w.before.before.before.before.before.before.before.before.before.before.args in
+    let a = w.args in
     let h : p.result < l.left = more_left L p.result l.left p.ensures (omega arith) in
     let x = take (l.at + 16384 - l.at) (drop l.at a.area.now) in
     let k : length x ≡ 16384 = length_part a.area.now l.at (l.at + 16384 - l.at) (omega arith) ∙ omega arith in
-    let y = c.before.before.before.whole-group in (
+    let y = c.whole_group in (
       omega arith,
       omega arith,
       omega arith,
       less_left L p.result l.left p.ensures (length a.area.now - l.at) h l.invariant.3 ∙ omega arith,
       search rules,
       search rules,
-      λ f g. merge_more (diffuse (digest_of a.hash)) L f l.at (l.at / 512) l.left l.d y.new.0 a.area.now _ l.invariant.4 (l.invariant.6 f g) p.result _ h p.ensures (omega arith)
+      λ f g. merge_more (diffuse (digest_of a.hash)) L f l.at (l.at / 512) l.left l.d y.new.d a.area.now _ l.invariant.4 (l.invariant.6 f g) p.result _ h p.ensures (omega arith)
           (length_under false a.rounds a.ks.now a.vs.now f g (l.at / 512) x (omega (arith, k)) ∙ k)
           (y.ensures f g),
     )
 
-slice-aggregate-last-group : tie.Need-slice-aggregate-last-group invariant_loop decreases_loop
+slice-aggregate-last-group : tie.Need-slice_bounds-last_group-end invariant_loop decreases_loop
 slice-aggregate-last-group c =
-    let l = c.before.before.before.loop in
+    let l = c.loop-at in
     let n : length l.b ≡ 16384 = l.invariant.5 in
     sym (length-take-le _ l.b (omega arith))
 
-last-group-requires : tie.Need-last-group-requires invariant_loop decreases_loop
+last-group-requires : tie.Need-last_group-requires invariant_loop decreases_loop
 unfolding part
 last-group-requires c κs =
-    let w = c.before.before.before.before in
-    let l = w.loop in
-    let s = w.before.before.before.before.before.before.before.before.before.before in
+    let w = c in
+    let l = w.loop-at in
+    let s = w in
     let N = length s.args.area.now in
     let j : length l.b ≡ 16384 = l.invariant.5 in
     let k : length (take (N - l.at) (drop l.at s.args.area.now)) ≡ N - l.at = length_part s.args.area.now l.at (N - l.at) (omega arith) in
@@ -103,41 +103,41 @@ last-group-requires c κs =
 
 returns : tie.Need-returns invariant_loop decreases_loop
 returns c =
-    let w = c.before.before.before.before.before.before.before.before in
-    let l = w.loop in
-    let d = w.before.before.before.before.clear in
-    let a = w.before.before.before.before.before.before.before.before.before.before.args in
-    let e : length d.new.0 ≡ length a.d.now = search rules in
+    let w = c in
+    let l = w.loop-at in
+    let d = w.clear in
+    let a = w.args in
+    let e : length d.new.d ≡ length a.d.now = search rules in
     let H = diffuse (digest_of a.hash) in
-    λ f g. merge-is H (length a.d.now) a.n d.new.0 _ (in_units f 0 a.area.now) e d.ensures
-    (merge-end H (length d.new.0) f l.at (l.at / 512) l.left l.d _ a.area.now _ l.invariant.4 (l.invariant.6 f g) (c.before.before.before.last-group.ensures f g))
+    λ f g. merge-is H (length a.d.now) a.n d.new.d _ (in_units f 0 a.area.now) e d.ensures
+    (merge-end H (length d.new.d) f l.at (l.at / 512) l.left l.d _ a.area.now _ l.invariant.4 (l.invariant.6 f g) (c.last_group.ensures f g))
 
-pub merge-groups-spec : {M : Type 1} → statement M
-merge-groups-spec =
+pub merge_groups_spec : {M : Type 1} → statement M
+merge_groups_spec =
     tie.close
     (tie.spec
     invariant_loop
     decreases_loop
-    (λ clear-requires κs. search rules)
-    (λ per-group-requires κs. search rules)
+    (λ c κs. search rules)
+    (λ c κs. search rules)
     loop-holds
-    (λ sub-loop. search rules)
-    (λ add-e. search rules)
-    (λ slice-aggregate-whole-group. search rules)
-    (λ sub-whole-group. search rules)
-    (λ part-whole-group-start. search rules)
-    (λ part-whole-group-end. search rules)
+    (λ c. search rules)
+    (λ c. search rules)
+    (λ c. search rules)
+    (λ c. search rules)
+    (λ c. search rules)
+    (λ c. search rules)
     whole-group-requires
     sub-left
-    (λ loop-less. search rules)
+    (λ c. search rules)
     loop-again
-    (λ sub-k. search rules)
-    (λ sub-m. search rules)
-    (λ array-borrow-prefix-b. search rules)
+    (λ c. search rules)
+    (λ c. search rules)
+    (λ c. search rules)
     slice-aggregate-last-group
-    (λ sub-last-group. search rules)
-    (λ part-last-group-start. search rules)
-    (λ part-last-group-end. search rules)
+    (λ c. search rules)
+    (λ c. search rules)
+    (λ c. search rules)
     last-group-requires
-    (λ same_length. search rules)
+    (λ c. search rules)
     returns)

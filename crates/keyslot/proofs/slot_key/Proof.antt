@@ -16,27 +16,31 @@ use Rattle.keyslot.proofs.slot_key.Tie as tie
 abbrev blank : List ℕ
 blank = replicate 64 0
 
-slice-aggregate-pbkdf2 : tie.Need-slice-aggregate-pbkdf2
+slice-aggregate-pbkdf2 : tie.Need-slice_bounds-pbkdf2-end
 slice-aggregate-pbkdf2 c =
-    let a = c.before.before.before.args in
+    let a = c.args in
     sym (length-take-le a.l blank (omega arith))
 
-pbkdf2-requires : tie.Need-pbkdf2-requires
+pbkdf2-requires : tie.Need-pbkdf2-made-requires
 pbkdf2-requires c κs =
-    let a = c.before.before.before.args in
+    let a = c.args in
     let k = length-take-le a.l blank (omega arith) in
     (omega arith, omega arith, omega arith, omega (arith, k))
 
 returns : tie.Need-returns
 returns c =
-    let a = c.before.before.before.before.before.args in
+    let a = c.args in
     let k : length (take a.l blank) ≡ a.l = length-take-le a.l blank (omega arith) in
-    let y = c.before.pbkdf2 in (
-      slot-key-is (digest_of a.hash) a.passphrase.now a.salt.now a.count a.l (take a.l blank) y.new.0 (drop a.l blank) k (search rules) y.ensures.0,
+    let y = c.pbkdf2-made in (
+      slot-key-is (digest_of a.hash) a.passphrase.now a.salt.now a.count a.l (take a.l blank) y.new.out (drop a.l blank) k (search rules) y.ensures.0,
       y.ensures.1 ∙ ap (values_made (digest_of a.hash).size a.count) k,
     )
 
-pub slot-key-spec : {M : Type 1} → statement M
-slot-key-spec =
+pub slot_key_spec : {M : Type 1} → statement M
+slot_key_spec =
     tie.close
-    (tie.spec (λ array-borrow-prefix-key. search rules) slice-aggregate-pbkdf2 pbkdf2-requires returns)
+    (tie.spec
+    (λ c. search rules)
+    slice-aggregate-pbkdf2
+    pbkdf2-requires
+    returns)

@@ -10,10 +10,16 @@ use Rattle.keyslot.proofs.whole_group.Tie as tie
 
 returns : tie.Need-returns
 returns c =
-    let a = c.before.before.before.before.before.before.before.before.before.before.before.before.before.before.args in
-    λ f g. c.before.before.add-stripes.ensures
-    ∙ ap (running (diffuse (digest_of a.hash)) (length a.d.now) a.d.now a.m) (c.before.before.before.before.before.before.before.decipher.ensures f g)
+    let a = c.args in
+    λ f g. c.add_stripes.ensures
+    ∙ ap (running (diffuse (digest_of a.hash)) (length a.d.now) a.d.now a.m) (c.decipher.ensures f g)
 
-pub whole-group-spec : {M : Type 1} → statement M
-whole-group-spec =
-    tie.close (tie.spec (λ decipher-requires κs. search rules) (λ add-stripes-requires κs. search rules) (λ same_length. search rules) (λ same-length-2. search rules) returns)
+pub whole_group_spec : {M : Type 1} → statement M
+whole_group_spec =
+    tie.close
+    (tie.spec
+    (λ c κs. search rules)
+    (λ c κs. search rules)
+    (λ c. search rules)
+    (λ c. search rules)
+    returns)

@@ -84,12 +84,13 @@ def declared_need(head, name):
     return m.group(1) if m else None
 
 
-def old_need(head, entry):
+def old_need(head, entry, olds=()):
     """The old name of the goal that an entry answers."""
     if entry.startswith("("):
         m = re.match(r"\(λ (" + TOKEN + ")", entry)
         return m.group(1) if m else entry
-    return declared_need(head, entry.split(" ")[0]) or entry
+    name = declared_need(head, entry.split(" ")[0]) or entry
+    return entry if norm(name) not in olds and norm(entry) in olds else name
 
 
 def pair(olds, needs):
@@ -159,6 +160,119 @@ def paths_of(text, fields, callee, muts):
     return re.sub(r"(\)|" + TOKEN + r")((?:\." + TOKEN + ")+)", path, text)
 
 
+class Way:
+    """The ways back from place to place: a lemma of the file that takes a place is given that very place, as many steps back as there are today."""
+
+    def __init__(self, text, it):
+        names = dict(zip((p[0] for p in it["places"]), it["places_by_name"]))
+        self.parent = {names[p[0]]: names.get(p[1]) for p in it["places"]}
+        self.goal = {n[1]: at[1] for n, at in zip(it["needs"], it["asked_at"])}
+        self.takes, self.gives, self.notes = {}, {}, []
+        place = r"tie\.(" + TOKEN + r")((?: [\w-]+)*)"
+        for m in re.finditer(r"^(?:abbrev |pub )*(" + TOKEN + r") :\s+(?:\(" + TOKEN + r" : )?" + place + r"\)?\s*→\s*(?:tie\.(" + TOKEN + r")((?: [\w-]+)*)\s*$)?", text, re.M):
+            if m.group(2) in self.parent:
+                self.takes[m.group(1)] = m.group(2)
+                if m.group(4) in self.parent:
+                    self.gives[m.group(1)] = m.group(4)
+
+    def steps(self, a, b):
+        n = 0
+        while a is not None and a != b:
+            a, n = self.parent.get(a), n + 1
+        return n if a == b else None
+
+    def definition(self, text):
+        m = re.search(r"^(?:abbrev |pub )*(" + TOKEN + r") :.*?^\1 (" + TOKEN + r")([^=\n]*)=", text, re.M | re.S)
+        if not m:
+            return text
+        goal = re.search(r"^(?:abbrev |pub )*" + re.escape(m.group(1)) + r" :\s+tie\.Need-(" + TOKEN + ")", text, re.M)
+        at = self.goal.get(goal.group(1)) if goal else self.takes.get(m.group(1))
+        if at is None:
+            return text
+        self.at, head, body = {m.group(2): at}, text[: m.end()], text[m.end() :]
+        return head + self.lets(body)
+
+    def lets(self, body):
+        out = ""
+        while True:
+            m = re.search(r"\blet (" + TOKEN + r") = ", body)
+            if not m:
+                return out + self.calls(body)
+            end = re.compile(r" in(?=\s)").search(body, m.end())
+            value, rest = body[m.end() : end.start()], body[end.end() :]
+            got = self.atom(value, 0)
+            out += self.calls(body[: m.end()])
+            if got and got[1] == len(value) and got[2] is not None:
+                want = [self.takes[f] for f in re.findall(r"(" + TOKEN + r") " + re.escape(m.group(1)) + r"(?![\w'.-])", rest) if f in self.takes]
+                base, place = got[0], got[2]
+                value, self.at[m.group(1)] = self.back(base, place, want[0]) if want else (base, place)
+                out += value
+            else:
+                out += self.calls(value)
+                self.at.pop(m.group(1), None)
+            out, body = out + " in", rest
+
+    def back(self, base, place, want):
+        n = self.steps(place, want)
+        if n is None:
+            self.notes.append(f"no way from {place} to {want}")
+            return base, place
+        return base + ".before" * n, want
+
+    def atom(self, text, i):
+        """At i: the text of a value with no way back behind it, where it and the way end, and its place or None."""
+        if text[i : i + 1] == "(":
+            depth, j = 0, i
+            while True:
+                depth += text[j] in "([{"
+                depth -= text[j] in ")]}"
+                j += 1
+                if depth == 0:
+                    break
+            inner = text[i + 1 : j - 1]
+            f = inner.split(" ")[0]
+            base, place = "(" + self.calls(inner) + ")", self.gives.get(f) if re.match(re.escape(f) + r" \S", inner) and self.one(inner) else None
+        else:
+            m = re.compile(r"[^\s(){}\[\];,.:«»\"`|]+").match(text, i)
+            if not m:
+                return None
+            base, j = m.group(0), m.end()
+            place = self.at.get(base)
+            one = self.one(text[i:]) if base in self.gives else None
+            if one:
+                base, j, place = self.calls(text[i : i + one]), i + one, self.gives[base]
+                return base, j, place
+        m = re.compile(r"(?:\.before)+(?![\w'-])").match(text, j)
+        if m and text[m.end() : m.end() + 1] != ".":
+            j = m.end()
+        elif text[j : j + 1] == ".":
+            place = None
+        return base, j, place
+
+    def one(self, text):
+        """Where the application of a lemma to one place ends, or None."""
+        m = re.match(TOKEN + " ", text)
+        if not m:
+            return None
+        got = self.atom(text, m.end())
+        return got[1] if got and (got[1] == len(text) or text[got[1] : got[1] + 1] in " )\n") else None
+
+    def calls(self, text):
+        out, i = "", 0
+        pattern = re.compile(r"(?<![\w'.-])(" + "|".join(re.escape(f) for f in sorted(self.takes, key=len, reverse=True)) + r") (?=[^\s=:→])") if self.takes else None
+        while pattern:
+            m = pattern.search(text, i)
+            if not m:
+                break
+            got = self.atom(text, m.end())
+            if not got or got[2] is None:
+                out, i = out + text[i : m.end()], m.end()
+                continue
+            out += text[i : m.end()] + self.back(got[0], got[2], self.takes[m.group(1)])[0]
+            i = got[1]
+        return out + text[i:]
+
+
 def respell(text, it, muts, params, function):
     cut = entries(text)
     if cut is None:
@@ -169,7 +283,8 @@ def respell(text, it, muts, params, function):
     count = 2 * len(it["loops"])
     stated, answers = answers[:count], answers[count:]
     needs = it["needs"]
-    match = pair([old_need(head, a) for a in answers], needs)
+    olds = {norm(n[0]) for n in needs}
+    match = pair([old_need(head, a, olds) for a in answers], needs)
     used = {m for m in match if m is not None}
     for i, a in enumerate(answers):
         if i not in used and not re.match(r"\(λ .*search rules\)$", a, re.S):
@@ -179,6 +294,7 @@ def respell(text, it, muts, params, function):
     for j, m in enumerate(match):
         if m is not None:
             goal[norm(old_need(head, answers[m]))] = needs[j][1]
+            goal[norm(old_need(head, answers[m], olds))] = needs[j][1]
     for o, n in needs:
         goal.setdefault(norm(o), n)
     head = re.sub(r"\btie\.Need-(" + TOKEN + ")", lambda m: "tie.Need-" + goal.get(norm(m.group(1)), m.group(1)), head)
@@ -221,6 +337,9 @@ def respell(text, it, muts, params, function):
             tail = " κs" if needs[j][1].endswith("requires") or re.search(r"-requires(-|$)", needs[j][1]) else ""
             a = f"(λ c{tail}. search rules)"
         lines.append("    " + a)
+    way = Way(head, it)
+    head = "\n\n".join(way.definition(part) for part in head.split("\n\n"))
+    notes += way.notes
     lines = ["    " + s for s in stated] + lines
     proof = f"\npub {function}_spec : {{M : Type 1}} → statement M\n{function}_spec =\n    tie.close\n    (tie.spec\n"
     return head + proof + "\n".join(lines) + ")\n", notes

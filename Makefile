@@ -13,7 +13,7 @@ INCLUDEDIR = $(PREFIX)/include
 DATADIR = $(PREFIX)/share
 
 TOOL = host/target/release/mivrozh
-LIBRARY = target/staticlib/libcapi.a
+LIBRARY = crates/capi/out/libcapi.a
 # What is made of the tool's own texts.
 MADE = host/target/install
 TEXTS = $(MADE)/mivrozh.1 $(MADE)/mivrozh.bash $(MADE)/mivrozh.zsh $(MADE)/mivrozh.fish

@@ -3,7 +3,7 @@
  *
  * Every call works on one image that the caller lends: the header, the eight key areas and the payload of a drive, from its
  * first byte. Link with libmivrozh.a (`pkg-config --cflags --libs mivrozh` where it is installed; in the repository it is
- * target/staticlib/libcapi.a). The library needs memcpy and memset, has no global state, allocates nothing and makes no
+ * crates/capi/out/libcapi.a). The library needs memcpy and memset, has no global state, allocates nothing and makes no
  * system call; the stack of a call stays below MIVROZH_MOST_STACK bytes. Calls on different images may run at the same time.
  *
  * RESULT. 0: accepted. Else the number of the first check that failed, in the order each call lists; then the image and every

@@ -6,15 +6,16 @@ use std::process::Command;
 
 fn main() {
     let root = repository_root();
-    let archive = root.join("target/staticlib/libcapi.a");
-    let sources = [root.join("crates"), root.join("crates.txt")];
+    let folder = root.join("crates/capi");
+    let archive = folder.join("out/libcapi.a");
+    let sources = stale::sources(&root.join("crates.txt"), &root.join("crates"));
     for watched in sources.iter().chain([&archive]) {
         println!("cargo::rerun-if-changed={}", watched.display());
     }
     if stale::is_stale(&archive, &sources) {
-        build(&root);
+        build(&folder);
     }
-    println!("cargo::rustc-link-search=native={}", root.join("target/staticlib").display());
+    println!("cargo::rustc-link-search=native={}", folder.join("out").display());
     println!("cargo::rustc-link-lib=static=capi");
 }
 
@@ -23,17 +24,15 @@ fn repository_root() -> PathBuf {
     here.ancestors().nth(2).expect("this crate stands in host/ of the repository").to_path_buf()
 }
 
-// How many checks rt runs at a time where the environment does not say: more than there are processors, since it waits for all of a batch.
-const JOBS: &str = "8";
+// The library for every processor of x86-64; unless it is told, `rt` builds for those with SSE4.2. host/demo has the same words.
+const LIBRARY: [&str; 3] = ["lib", "--cpu", "x86-64"];
 
-// Proves what the library needs, on all processors, and then writes it.
-fn build(root: &Path) {
-    let jobs = std::env::var("RT_JOBS").unwrap_or_else(|_| JOBS.to_string());
-    for task in ["check", "staticlib"] {
-        match Command::new("rt").args([task, "capi"]).env("RT_JOBS", &jobs).current_dir(root).status() {
-            Ok(status) if status.success() => {}
-            Ok(status) => panic!("rt {task} capi failed ({status}); run it in {} to see why", root.display()),
-            Err(error) => panic!("rt, the command of the Rattle toolchain, cannot be run: {error}"),
-        }
+// Proves the crates that the library needs, where that has not been done here, and writes the library.
+fn build(folder: &Path) {
+    let task = LIBRARY.join(" ");
+    match Command::new("rt").args(LIBRARY).current_dir(folder).status() {
+        Ok(status) if status.success() => {}
+        Ok(status) => panic!("rt {task} failed ({status}); run it in {} to see why", folder.display()),
+        Err(error) => panic!("rt, the command of the Rattle toolchain, cannot be run: {error}"),
     }
 }

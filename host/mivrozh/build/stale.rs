@@ -2,6 +2,16 @@
 use std::path::{Path, PathBuf};
 use std::time::SystemTime;
 
+// The folders of a crate that a check reads. Beside them stands `out`, which `rt` changes with each command.
+const PARTS: [&str; 3] = ["src", "specs", "proofs"];
+
+/// What the library is made of: the list of crates, and the folders of sources that each crate has.
+pub fn sources(list: &Path, crates: &Path) -> Vec<PathBuf> {
+    let folders = crates.read_dir().into_iter().flatten().flatten();
+    let parts = folders.flat_map(|folder| PARTS.map(|part| folder.path().join(part)));
+    parts.filter(|part| part.is_dir()).chain([list.to_path_buf()]).collect()
+}
+
 /// Whether the archive is missing, or a source was changed, added or deleted after it was built.
 pub fn is_stale(archive: &Path, sources: &[PathBuf]) -> bool {
     match changed(archive) {

@@ -6,10 +6,12 @@ use std::fs::{self, File};
 use std::path::{Path, PathBuf};
 use std::time::{Duration, SystemTime};
 
-// A tree like the repository's: crates/one/src with two sources, and a list of crates. All of it is an hour old, and the
-// archive half an hour. The sources have no ending of Rattle's: rt would miss them in the repository's own list.
+// A tree like the repository's: crates/one/src with two sources, one of them in a module's folder, what `rt` leaves in crates/one/out,
+// and a list of crates. All of it is an hour old, and the archive, which stands in out, half an hour. No name is one of Rattle's: rt
+// would refuse such a file outside of the repository's own crates, and a second list of crates.
 struct Tree {
-    sources: [PathBuf; 2],
+    list: PathBuf,
+    crates: PathBuf,
     archive: PathBuf,
 }
 
@@ -22,26 +24,30 @@ impl Tree {
     fn new(name: &str) -> Tree {
         let root = Path::new(env!("CARGO_TARGET_TMPDIR")).join(name);
         let _ = fs::remove_dir_all(&root);
-        let (crates, list, archive) = (root.join("crates"), root.join("crates.txt"), root.join("libcapi.a"));
-        let folder = crates.join("one/src");
-        fs::create_dir_all(&folder).expect("folders");
-        for file in [&folder.join("lib.txt"), &folder.join("more.txt"), &list, &archive] {
+        let (crates, list) = (root.join("crates"), root.join("list.txt"));
+        let (folder, out) = (crates.join("one/src"), crates.join("one/out"));
+        let archive = out.join("libcapi.a");
+        fs::create_dir_all(folder.join("part")).expect("folders");
+        fs::create_dir_all(&out).expect("folders");
+        let files =
+            [folder.join("lib.txt"), folder.join("part/more.txt"), out.join("kept.txt"), list.clone(), archive.clone()];
+        for file in &files {
             fs::write(file, "text").expect("a file");
         }
         let hour = Duration::from_secs(3600);
-        for old in [&folder.join("lib.txt"), &folder.join("more.txt"), &folder, &crates.join("one"), &crates, &list] {
+        for old in files.iter().chain([&folder.join("part"), &folder, &out, &crates.join("one"), &crates]) {
             set_age(old, hour);
         }
         set_age(&archive, hour / 2);
-        Tree { sources: [crates, list], archive }
+        Tree { list, crates, archive }
     }
 
     fn is_stale(&self) -> bool {
-        stale::is_stale(&self.archive, &self.sources)
+        stale::is_stale(&self.archive, &stale::sources(&self.list, &self.crates))
     }
 
     fn source(&self, name: &str) -> PathBuf {
-        self.sources[0].join("one/src").join(name)
+        self.crates.join("one/src").join(name)
     }
 }
 
@@ -63,17 +69,17 @@ fn a_changed_source_is_noticed() {
     set_age(&tree.source("lib.txt"), Duration::ZERO);
     assert!(tree.is_stale());
     let tree = Tree::new("listed");
-    set_age(&tree.sources[1], Duration::ZERO);
+    set_age(&tree.list, Duration::ZERO);
     assert!(tree.is_stale());
 }
 
 #[test]
 fn a_deleted_source_is_noticed() {
     let tree = Tree::new("deleted");
-    fs::remove_file(tree.source("more.txt")).expect("the source was there");
+    fs::remove_file(tree.source("part/more.txt")).expect("the source was there");
     assert!(tree.is_stale());
     let tree = Tree::new("folder");
-    fs::remove_dir_all(tree.sources[0].join("one")).expect("the folder was there");
+    fs::remove_dir_all(tree.source("part")).expect("the folder was there");
     assert!(tree.is_stale());
 }
 
@@ -84,4 +90,19 @@ fn an_added_source_is_noticed_whatever_its_age() {
     fs::write(&added, "text").expect("a file");
     set_age(&added, Duration::from_secs(7200));
     assert!(tree.is_stale());
+}
+
+#[test]
+fn a_new_folder_of_sources_is_noticed() {
+    let tree = Tree::new("specs");
+    fs::create_dir(tree.crates.join("one/specs")).expect("a folder");
+    assert!(tree.is_stale());
+}
+
+#[test]
+fn what_rt_leaves_beside_the_sources_is_none() {
+    let tree = Tree::new("out");
+    set_age(&tree.crates.join("one/out/kept.txt"), Duration::ZERO);
+    fs::write(tree.crates.join("one/out/new.txt"), "text").expect("a file");
+    assert!(!tree.is_stale());
 }

@@ -31,7 +31,7 @@ pub fn compile(compiler: &str, options: &[&str], sources: &[&Path], name: &str) 
         .arg(host().join("include"))
         .args(options)
         .args(sources)
-        .arg(host().join("../target/staticlib/libcapi.a"))
+        .arg(host().join("../crates/capi/out/libcapi.a"))
         .arg("-o")
         .arg(&program));
     program

@@ -163,15 +163,18 @@ static void expect_list(size_t from, unsigned slot) {
 }
 
 /*
- * Around the library's PBKDF2, by valgrind. The arguments are what is made, its length, the hash, the passphrase, the salt, the count; it
- * returns the number of HMAC values. What has 20 bytes is the checksum of a key and is public: that of the drive's key stands in the header, and whether that of another differs is
- * what the call answers. How many of its first bytes are the same may show too, since the comparison ends at the first that differs.
+ * Around the library's PBKDF2, by valgrind. The arguments are what is made, its length, the hash, the passphrase, its length, the salt,
+ * its length, the count; those behind the second are passed on as they are, so that it does no harm where the compiler has left one
+ * out. It returns the number of HMAC values. What has 20 bytes is the checksum of a key and is public: that of the drive's key stands in
+ * the header, and whether that of another differs is what the call answers. How many of its first bytes are the same may show too, since
+ * the comparison ends at the first that differs.
  */
-uint64_t I_WRAP_SONAME_FNNAME_ZZ(NONE, pbkdf2ZcZcpbkdf2)(uint8_t *made, size_t many, size_t hash, const void *from, const void *with, size_t count) {
+uint64_t I_WRAP_SONAME_FNNAME_ZZ(NONE, pbkdf2ZcZcpbkdf2)(uint8_t *made, size_t many, size_t hash, const void *from, size_t from_length,
+                                                         const void *with, size_t with_length, size_t count) {
     OrigFn library;
     uint64_t number;
     VALGRIND_GET_ORIG_FN(library);
-    CALL_FN_W_6W(number, library, made, many, hash, from, with, count);
+    CALL_FN_W_8W(number, library, made, many, hash, from, from_length, with, with_length, count);
     must(many == CHECKSUM || many == length, "a checksum, or a key as long as the drive's");
     must(is_secret(made, many), "the marks have gone through PBKDF2");
     must(has_marks(&number, sizeof number, 0) && number == values_of(many), "the number of HMAC values comes from no secret");

@@ -44,7 +44,7 @@ def lent(crate):
     for f in glob.glob("crates/*/src/**/*.rt", recursive=True):
         text = open(f, encoding="utf-8").read()
         for m in re.finditer(r"\bfn (\w+)(?:<[^>]*>)?\(([^{]*?)\)\s*(?:->|requires|ensures|where|\{)", text, re.S):
-            out.setdefault(m.group(1), []).append(re.findall(r"(\w+)\s*:\s*&(?:'\w+ )?mut ", m.group(2)))
+            out.setdefault((f.split("/")[1], m.group(1)), []).append(re.findall(r"(\w+)\s*:\s*&(?:'\w+ )?mut ", m.group(2)))
     return out
 
 
@@ -190,6 +190,9 @@ class Way:
         if at is None:
             return text
         self.at, head, body = {m.group(2): at}, text[: m.end()], text[m.end() :]
+        got = self.atom(body.strip(), 0) if m.group(1) in self.gives else None
+        if got and got[1] == len(body.strip()) and got[2] is not None:
+            return head + " " + self.back(got[0], got[2], self.gives[m.group(1)])[0] + body[len(body.rstrip()) :]
         return head + self.lets(body)
 
     def lets(self, body):
@@ -285,6 +288,8 @@ def respell(text, it, muts, params, function):
     needs = it["needs"]
     olds = {norm(n[0]) for n in needs}
     match = pair([old_need(head, a, olds) for a in answers], needs)
+    if "-v" in sys.argv:
+        print([old_need(head, a, olds) for a in answers], [n[0] for n in needs], match)
     used = {m for m in match if m is not None}
     for i, a in enumerate(answers):
         if i not in used and not re.match(r"\(λ .*search rules\)$", a, re.S):
@@ -312,7 +317,7 @@ def respell(text, it, muts, params, function):
                 notes.append(f"field {o}: {fields[norm(o)]} and {n}")
             fields[norm(o)] = n
             if p[3]:
-                callee[n] = p[3].split("::")[-1]
+                callee[n] = (p[3].split("::")[0], p[3].split("::")[-1])
 
     head = "\n\n".join(paths_of(part, fields, callee, muts) for part in head.split("\n\n"))
 
@@ -328,6 +333,7 @@ def respell(text, it, muts, params, function):
 
     head = head.replace(".well-formed", ".well_formed")
     head = re.sub(r"\.inv(?![\w'-])", ".invariant", head)
+    head = re.sub(r"(-arg-[\w-]+)\.given\.0(?![\w'-])", r"\1.given", head)
     head = re.sub(r"(\((?:digest_of|compression_of) [^()]*\))\.size-[\w-]+", r"\1.size", head)
     head = re.sub(r"\.pre\b", ".requires", head)
     lines = []
@@ -347,7 +353,7 @@ def respell(text, it, muts, params, function):
 
 def main(argv):
     muts = lent(None)
-    for crate in argv:
+    for crate in (c for c in argv if c != "-v"):
         params = named(crate)
         for path, it in sorted(lists(crate).items()):
             f = f"crates/{crate}/proofs/{path}/Proof.antt"

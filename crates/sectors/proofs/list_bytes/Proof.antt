@@ -10,15 +10,15 @@ use Rattle.sectors.proofs.list_bytes.Tie as tie
 returns : tie.Need-returns
 unfolding slot_count
 returns c =
-    let a = c.before.area_of.ensures in
+    let a = c.area_of-a.ensures in
     (ap (λ (n : ℕ). (n + 2) * 516) a.0.count_is, omega (arith, a.1))
 
-pub list-bytes-spec : {M : Type 1} → statement M
-list-bytes-spec =
+pub list_bytes_spec : {M : Type 1} → statement M
+list_bytes_spec =
     tie.close
     (tie.spec
-    (λ area-of-requires κs. search rules)
-    (λ cast-result. search rules)
-    (λ add-result. search rules)
-    (λ mul-result. search rules)
+    (λ c κs. search rules)
+    (λ c. search rules)
+    (λ c. search rules)
+    (λ c. search rules)
     returns)

@@ -11,44 +11,44 @@ use Rattle.slots.proofs.disable_slot.Tie as tie
 
 -- ---- places
 
-abbrev start : tie.After-slot-of → tie.Start
-start c = c.before.before.before.before
+abbrev start : tie.After-slot_of-s → tie.Start
+start c = c.before.before.before
 
-abbrev found : tie.After-copy-into → tie.After-slot-of
+abbrev found : tie.After-copy_into → tie.After-slot_of-s
 found c = c.before.before.before
 
 -- ---- needs
 
-slot-of-requires : tie.Need-slot-of-requires
-slot-of-requires c κs = let s = c.before.before.before in (s.requires.0, s.requires.1)
+slot-of-requires : tie.Need-slot_of-s-requires
+slot-of-requires c κs = let s = c in (s.requires.0, s.requires.1)
 
-copy-into-requires : tie.Need-copy-into-requires
-copy-into-requires c κs = let p = c.before.before in omega (arith, (start p).requires.2, p.slot_of.ensures.start_is)
+copy-into-requires : tie.Need-copy_into-requires
+copy-into-requires c κs = let p = c.before.before in omega (arith, (start p).requires.2, p.slot_of-s.ensures.start_is)
 
-put-head-requires : tie.Need-put-head-requires
+put-head-requires : tie.Need-put_head-requires
 put-head-requires c κs =
     let f = c.before.before.before.before in
     let s = start (found f) in
-    let l : length f.copy-into.new.0 ≡ length s.args.image.now = search rules in
-    (omega (arith, l, s.pre.0), s.pre.1)
+    let l : length f.copy_into.new.d ≡ length s.args.image.now = search rules in
+    (omega (arith, l, s.requires.0), s.requires.1)
 
 returns : tie.Need-returns
 unfolding disable_writes zeros
 returns c =
-    let h = c.before.before in
-    let f = h.before.before.before.before.before in
+    let h = c in
+    let f = h.before.before.before.before.before.before.before in
     let p = found f in
     let a = (start p).args in
-    slot-written a.image.now a.slot p.slot_of.result.start.0 p.slot_of.ensures.start_is a.filler.now _ _ _ f.copy-into.ensures h.put-head.ensures.0
+    slot-written a.image.now a.slot p.slot_of-s.result.start.0 p.slot_of-s.ensures.start_is a.filler.now _ _ _ f.copy_into.ensures h.put_head.ensures.0
 
-pub disable-slot-spec : {M : Type 1} → statement M
-disable-slot-spec =
+pub disable_slot_spec : {M : Type 1} → statement M
+disable_slot_spec =
     tie.close
     (tie.spec
     slot-of-requires
-    (λ cast-area. search rules)
-    (λ mul-area. search rules)
+    (λ c. search rules)
+    (λ c. search rules)
     copy-into-requires
     put-head-requires
-    (λ same_length. search rules)
+    (λ c. search rules)
     returns)

@@ -141,7 +141,8 @@ def paths_of(text, fields, callee, muts):
     def path(m):
         if m.group(1) in ("tie", "use"):
             return m.group(0)
-        words, call, k = m.group(2).split(".")[1:], call_of.get(m.group(1)), 0
+        spelled = re.sub(r"\.last(?=\.\d)", ".new", re.sub(r"\.kept(?=\.\d)", ".auto", m.group(2)))
+        words, call, k = spelled.split(".")[1:], call_of.get(m.group(1)), 0
         while k < len(words) and words[k] == "before":
             k += 1
         if k == len(words):
@@ -169,7 +170,7 @@ class Way:
         self.goal = {n[1]: at[1] for n, at in zip(it["needs"], it["asked_at"])}
         self.takes, self.gives, self.notes = {}, {}, []
         place = r"tie\.(" + TOKEN + r")((?: [\w-]+)*)"
-        for m in re.finditer(r"^(?:abbrev |pub )*(" + TOKEN + r") :\s+(?:\(" + TOKEN + r" : )?" + place + r"\)?\s*→\s*(?:tie\.(" + TOKEN + r")((?: [\w-]+)*)\s*$)?", text, re.M):
+        for m in re.finditer(r"^(?:abbrev |pub )*(" + TOKEN + r") :\s+(?:\(" + TOKEN + r" : )?" + place + r"\)?(?:\s*\([^)]*\))*\s*→\s*(?:tie\.(" + TOKEN + r")((?: [\w-]+)*)\s*$)?", text, re.M):
             if m.group(2) in self.parent:
                 self.takes[m.group(1)] = m.group(2)
                 if m.group(4) in self.parent:
@@ -333,6 +334,8 @@ def respell(text, it, muts, params, function):
 
     head = head.replace(".well-formed", ".well_formed")
     head = re.sub(r"\.inv(?![\w'-])", ".invariant", head)
+    head = re.sub(r"(-test|\bif[\w-]*)\.taken(?![\w'-])", r"\1.true", head)
+    head = re.sub(r"(-test|\bif[\w-]*)\.left(?![\w'-])", r"\1.false", head)
     head = re.sub(r"(-arg-[\w-]+)\.given\.0(?![\w'-])", r"\1.given", head)
     head = re.sub(r"(\((?:digest_of|compression_of) [^()]*\))\.size-[\w-]+", r"\1.size", head)
     head = re.sub(r"\.pre\b", ".requires", head)

@@ -12,10 +12,10 @@ use Rattle.formatting.proofs.write_drive.Tie as tie
 
 -- ---- places, from the last back
 
-abbrev laid : tie.After-clear → tie.After-payload-start
+abbrev laid : tie.After-clear → tie.After-payload_start-payload
 laid c = c.before.before.before
 
-abbrev start : tie.After-payload-start → tie.Start
+abbrev start : tie.After-payload_start-payload → tie.Start
 start c = c.before.before.before.before
 
 abbrev input : tie.Start → FormatInput
@@ -26,57 +26,57 @@ input z = let a = z.args in format_input a.profile a.stripes a.key.now a.salt.no
 fits : (z : tie.Start) → Fit (input z) z.args.image.now
 fits z = fit (input z) z.args.image.now z.requires
 
-room : (c : tie.After-payload-start) → c.payload-start.result.0 * 512 ≤ length (start c).args.image.now
-room c = omega (arith, c.payload-start.ensures.0, (fits (start c)).payload_ends)
+room : (c : tie.After-payload_start-payload) → c.payload_start-payload.result.0 * 512 ≤ length (start c).args.image.now
+room c = omega (arith, c.payload_start-payload.ensures.0, (fits (start c)).payload_ends)
 
-cast-payload-start : tie.Need-overflow-cast-payload-start
+cast-payload-start : tie.Need-overflow_cast-key
 cast-payload-start c = omega (arith, (fits c.before.before.before).key_most)
 
-payload-start-requires : tie.Need-payload-start-requires
+payload-start-requires : tie.Need-payload_start-payload-requires
 payload-start-requires c κs = let f = fits c.before.before.before in (f.stripes_most, f.key_most)
 
-slice-relend-prefix-clear : tie.Need-slice-relend-prefix-clear
+slice-relend-prefix-clear : tie.Need-slice_bounds-clear-end
 slice-relend-prefix-clear c = omega (arith, room c.before)
 
-slice-aggregate-clear : tie.Need-slice-aggregate-clear
+slice-aggregate-clear : tie.Need-slice_bounds-clear-end-2
 slice-aggregate-clear c = sym (length-take-le _ _ (slice-relend-prefix-clear c.before))
 
-header-of-requires : tie.Need-header-of-requires
+header-of-requires : tie.Need-header_of-h-requires
 header-of-requires c κs =
     let f = fits (start (laid c.before.before)) in
     (f.profile-known, f.stripes_most, f.key_most, f.count_least, f.uuid_is)
 
-copy-into-requires : tie.Need-copy-into-requires
+copy-into-requires : tie.Need-copy_into-requires
 copy-into-requires c κs =
-    let h = c.before.before.before in
-    let l : length h.header_of.result.bytes ≡ 592 = search rules in
-    omega (arith, l, (fits (start (laid h.before.before.before))).size)
+    let h = c in
+    let l : length h.header_of-h.result.bytes ≡ 592 = search rules in
+    omega (arith, l, (fits (start (laid h.before.before.before.before.before.before))).size)
 
 returns : tie.Need-returns
 returns c =
-    let w = c.before.before in
-    let h = w.before.before.before.before in
-    let e = h.before.before.before in
+    let w = c in
+    let h = w in
+    let e = h.before.before.before.before.before.before.before.before.before in
     let p = laid e in
     let z = start p in (
-      drive_written (input z) z.args.image.now (fits z) p.payload-start.result.0 e.clear.new.0 _ _
-          p.payload-start.ensures.0 e.clear.ensures h.header_of.ensures.0 w.copy-into.ensures,
-      h.header_of.ensures.1,
+      drive_written (input z) z.args.image.now (fits z) p.payload_start-payload.result.0 e.clear.new.d _ _
+          p.payload_start-payload.ensures.0 e.clear.ensures h.header_of-h.ensures.0 w.copy_into.ensures,
+      h.header_of-h.ensures.1,
     )
 
-pub write-drive-spec : {M : Type 1} → statement M
-write-drive-spec =
+pub write_drive_spec : {M : Type 1} → statement M
+write_drive_spec =
     tie.close
     (tie.spec
     cast-payload-start
     payload-start-requires
-    (λ cast-end. search rules)
-    (λ mul-end. search rules)
+    (λ c. search rules)
+    (λ c. search rules)
     slice-relend-prefix-clear
     slice-aggregate-clear
-    (λ clear-requires κs. search rules)
+    (λ c κs. search rules)
     header-of-requires
-    (λ slice-aggregate-copy-into. search rules)
+    (λ c. search rules)
     copy-into-requires
-    (λ same_length. search rules)
+    (λ c. search rules)
     returns)

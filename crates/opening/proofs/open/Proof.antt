@@ -22,10 +22,10 @@ use Rattle.opening.proofs.open.Tie as tie
 
 -- ---- places
 
-abbrev at_1 : tie.Else1 → tie.Start
+abbrev at_1 : tie.Else-number_of-ne0 → tie.Start
 at_1 c = c.before.before.before.before.before
 
-abbrev at-2 : tie.Else2 → tie.Else1
+abbrev at-2 : tie.Else-not-passphrase_ok → tie.Else-number_of-ne0
 at-2 c = c.before.before
 
 abbrev facts : tie.Start → Facts
@@ -34,88 +34,88 @@ facts s = facts_in s.args.image.now
 abbrev call : tie.Start → Call
 call s = open_any s.args.passphrase.now
 
-header_ok : (c : tie.Else1) → HeaderOk (at_1 c).args.image.now
-header_ok c = sym c.before.before.header-check.ensures ∙ sym c.before.number_of_lem.ensures ∙ c.if1.false
+header_ok : (c : tie.Else-number_of-ne0) → HeaderOk (at_1 c).args.image.now
+header_ok c = sym c.header_check-h.ensures ∙ sym c.number_of.ensures ∙ c.if-number_of-ne0.false
 
-passphrase_passes : (c : tie.Else2) → passphrase_ok (at_1 (at-2 c)).args.passphrase.now ≡ true
-passphrase_passes c = holds c.before.passphrase_passes.ensures c.if2.false
+passphrase_passes : (c : tie.Else-not-passphrase_ok) → passphrase_ok (at_1 (at-2 c)).args.passphrase.now ≡ true
+passphrase_passes c = holds c.passphrase_passes.ensures c.if-not-passphrase_ok.false
 
-early_ok : (c : tie.Else2) → let s = at_1 (at-2 c) in first (early_checks (facts s) (call s)) ≡ 0
+early_ok : (c : tie.Else-not-passphrase_ok) → let s = at_1 (at-2 c) in first (early_checks (facts s) (call s)) ≡ 0
 unfolding early_checks
 early_ok c = let s = at_1 (at-2 c) in first_pass (early_checks (facts s) (call s)) (passphrase_passes c, tt)
 
 -- ---- needs
 
-returns : tie.Need-returns
+returns : tie.Need-returns-then-number_of-ne0
 returns c =
-    let e = c.before in
-    let h = e.before.before.header-check in
-    let s = e.before.before.before.before.before in
+    let e = c in
+    let h = e.header_check-h in
+    let s = e.before.before.before.before.before.before in
     let m = s.args.image.now in
     opens-refused m (call s) (no-key_any s.args.passphrase.now) c.refused.ensures
-    (step-header built m (call s) (number h.result) (λ q. e.if1.true (e.before.number_of_lem.ensures ∙ q)) h.ensures)
+    (step-header built m (call s) (number h.result) (λ q. e.if-number_of-ne0.true (e.number_of.ensures ∙ q)) h.ensures)
 
-returns-2 : tie.Need-returns-2
+returns-2 : tie.Need-returns-then-not-passphrase_ok
 unfolding early_checks
 returns-2 c =
-    let t = c.before.before.passphrase_passes in
+    let t = c.passphrase_passes in
     let p = c.before.before.before in
     let s = at_1 p in
     let m = s.args.image.now in
-    let bad = fails t.ensures c.before.if2.true in
-    opens-refused m (call s) (no-key_any s.args.passphrase.now) c.refused2.ensures
+    let bad = fails t.ensures c.if-not-passphrase_ok.true in
+    opens-refused m (call s) (no-key_any s.args.passphrase.now) c.refused-then-not-passphrase_ok.ensures
     (step-early built m (call s) (header_ok p) 14 (λ q. omega arith) (refused_by (early_checks (facts s) (call s)) 0 tt bad))
 
-find-slot-requires : tie.Need-find-slot-requires
+find-slot-requires : tie.Need-find_slot-s-requires
 find-slot-requires c κs = (header_ok (at-2 c), passphrase_passes c)
 
-returns-3 : tie.Need-returns-3
+returns-3 : tie.Need-returns-in_default
 unfolding late_checks test_cost
 returns-3 c =
-    let t = c.before.before.before in
-    let e = t.before in
+    let t = c in
+    let e = t.before.before.before.before in
     let s = at_1 (at-2 e) in
     let m = s.args.image.now in
-    let none = sym t.find-slot.ensures.any_is ∙ ap is_any c.before.enum_told.given.1 in
-    opens-refused m (call s) (no-key_any s.args.passphrase.now) c.refused3.ensures
+    let none = sym t.find_slot-s.ensures.any_is ∙ ap is_any c.enum_told-1.given.1 in
+    opens-refused m (call s) (no-key_any s.args.passphrase.now) c.refused-in_default.ensures
     (step-late built m (call s) (header_ok (at-2 e)) (early_ok e) 17 (λ q. omega arith) (refused_by (late_checks (facts s) (call s)) 0 tt none)
-    t.find-slot.result.values t.find-slot.ensures.values_are)
+    t.find_slot-s.result.values t.find_slot-s.ensures.values_are)
 
-key-bytes-requires : tie.Need-key-bytes-requires
+key-bytes-requires : tie.Need-key_bytes-requires
 key-bytes-requires c κs =
     let p = at-2 c.before.before.before.before.before in
     (sound (at_1 p).args.image.now (header_ok p)).named
 
-returns-4 : tie.Need-returns-4
+returns-4 : tie.Need-returns
 unfolding late_checks answer opened test_cost work_cost
 returns-4 c =
-    let found = c.before.before.before.found.given.1 in
-    let t = c.before.before.before.before.before in
-    let e = t.before in
+    let found = c.found-1.given.1 in
+    let t = c in
+    let e = t.before.before.before.before.before.before in
     let s = at_1 (at-2 e) in
     let m = s.args.image.now in
-    let r = t.find-slot.ensures in
+    let r = t.find_slot-s.ensures in
     let late = first_pass (late_checks (facts s) (call s)) (sym r.any_is ∙ ap is_any found, tt) in
-    let v : t.find-slot.result.values ≡ search_cost (facts s) s.args.passphrase.now 1 8 + 0 = omega (arith, r.values_are) in
-    opens_as built m (call s) _ _ (step-accepted built m (call s) (header_ok (at-2 e)) (early_ok e) late t.find-slot.result.values v) _ _ _ _
-    refl (sym (ap slot_found found) ∙ r.slot_is) c.key-bytes.ensures.0 (r.key_is (ap is_any found))
+    let v : t.find_slot-s.result.values ≡ search_cost (facts s) s.args.passphrase.now 1 8 + 0 = omega (arith, r.values_are) in
+    opens_as built m (call s) _ _ (step-accepted built m (call s) (header_ok (at-2 e)) (early_ok e) late t.find_slot-s.result.values v) _ _ _ _
+    refl (sym (ap slot_found found) ∙ r.slot_is) c.key_bytes.ensures.0 (r.key_is (ap is_any found))
 
 pub open_spec : {M : Type 1} → statement M
 open_spec =
     tie.close
     (tie.spec
-    (λ header-check-requires κs. search rules)
-    (λ number-of-requires κs. search rules)
-    (λ refused-requires κs. search rules)
+    (λ c κs. search rules)
+    (λ c κs. search rules)
+    (λ c κs. search rules)
     returns
-    (λ passphrase-ok-requires κs. search rules)
-    (λ refused-requires-2 κs. search rules)
+    (λ c κs. search rules)
+    (λ c κs. search rules)
     returns-2
     find-slot-requires
-    (λ enum-known-found. search rules)
-    (λ enum_told. search rules)
-    (λ refused-requires-3 κs. search rules)
+    (λ c. search rules)
+    (λ c. search rules)
+    (λ c κs. search rules)
     returns-3
     key-bytes-requires
-    (λ cast-t8. search rules)
+    (λ c. search rules)
     returns-4)

@@ -17,53 +17,53 @@ use Rattle.opening.proofs.open_slot_check.Tie as tie
 abbrev list : tie.Start → List Check
 list s = early_checks (facts_in s.args.image.now) (open_slot s.args.slot s.args.passphrase.now)
 
-abbrev start₁ : tie.Else1 → tie.Start
+abbrev start₁ : tie.Else-not-slot_number_ok → tie.Start
 start₁ c = c.before.before.before.before
 
-abbrev start₂ : tie.Else2 → tie.Start
+abbrev start₂ : tie.Else-not-fits → tie.Start
 start₂ c = start₁ c.before.before.before
 
-number_ok : (c : tie.Else1) → slot_number_ok (start₁ c).args.slot ≡ true
-number_ok c = holds c.before.slot-number-ok.ensures c.if1.false
+number_ok : (c : tie.Else-not-slot_number_ok) → slot_number_ok (start₁ c).args.slot ≡ true
+number_ok c = holds c.slot_number_ok.ensures c.if-not-slot_number_ok.false
 
-passed₁ : (c : tie.Else1) → Pass (take 1 (list (start₁ c)))
+passed₁ : (c : tie.Else-not-slot_number_ok) → Pass (take 1 (list (start₁ c)))
 unfolding early_checks
 passed₁ c = (number_ok c, tt)
 
-passed₂ : (c : tie.Else2) → Pass (take 2 (list (start₂ c)))
+passed₂ : (c : tie.Else-not-fits) → Pass (take 2 (list (start₂ c)))
 unfolding early_checks
-passed₂ c = pass_next (list (start₂ c)) 1 (passed₁ c.before.before.before) (holds c.before.before.passphrase_passes.ensures c.if2.false)
+passed₂ c = pass_next (list (start₂ c)) 1 (passed₁ c.before.before.before) (holds c.passphrase_passes.ensures c.if-not-fits.false)
 
 -- ---- needs
 
-returns : tie.Need-returns
+returns : tie.Need-returns-then-not-slot_number_ok
 unfolding early_checks
-returns c = refused_by _ 0 tt (fails c.before.slot-number-ok.ensures c.if1.true)
+returns c = refused_by _ 0 tt (fails c.slot_number_ok.ensures c.if-not-slot_number_ok.true)
 
-slot-enabled-requires : tie.Need-slot-enabled-requires
+slot-enabled-requires : tie.Need-slot_enabled-enabled-requires
 slot-enabled-requires c κs = ((start₁ c.before).requires, number_ok c.before)
 
-returns-2 : tie.Need-returns-2
+returns-2 : tie.Need-returns-then-not-fits
 unfolding early_checks
-returns-2 c = refused_by _ 1 (passed₁ c.before.before.before) (fails c.before.before.passphrase_passes.ensures c.if2.true)
+returns-2 c = refused_by _ 1 (passed₁ c.before.before.before) (fails c.passphrase_passes.ensures c.if-not-fits.true)
 
-returns-3 : tie.Need-returns-3
+returns-3 : tie.Need-returns-then-not-enabled
 unfolding early_checks
-returns-3 c = refused_by _ 2 (passed₂ c.before) (fails c.before.before.slot-enabled.ensures c.if3.true)
+returns-3 c = refused_by _ 2 (passed₂ c.before) (fails c.slot_enabled-enabled.ensures c.if-not-enabled.true)
 
-returns-4 : tie.Need-returns-4
+returns-4 : tie.Need-returns
 unfolding early_checks
 returns-4 c =
     let checks = list (start₂ c.before) in
-    all_pass checks (pass_next checks 2 (passed₂ c.before) (holds c.before.before.slot-enabled.ensures c.if3.false))
+    all_pass checks (pass_next checks 2 (passed₂ c.before) (holds c.slot_enabled-enabled.ensures c.if-not-enabled.false))
 
-pub open-slot-check-spec : {M : Type 1} → statement M
-open-slot-check-spec =
+pub open_slot_check_spec : {M : Type 1} → statement M
+open_slot_check_spec =
     tie.close
     (tie.spec
-    (λ slot-number-ok-requires κs. search rules)
+    (λ c κs. search rules)
     returns
-    (λ passphrase-ok-requires κs. search rules)
+    (λ c κs. search rules)
     slot-enabled-requires
     returns-2
     returns-3

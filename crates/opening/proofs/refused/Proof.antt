@@ -8,5 +8,8 @@ returns : tie.Need-returns
 unfolding zeros
 returns c = record { refusal_is = refl; slot_is = refl; length_is = refl; key_is = refl; values_are = refl }
 
-pub refused-spec : {M : Type 1} → statement M
-refused-spec = tie.close (tie.spec returns)
+pub refused_spec : {M : Type 1} → statement M
+refused_spec =
+    tie.close
+    (tie.spec
+    returns)

@@ -5,7 +5,12 @@ use Rattle.screens.proofs.entry_at.Statement.{statement}
 use Rattle.screens.proofs.entry_at.Tie as tie
 
 returns : tie.Need-returns
-returns c = entry_is _ _ c.before.before.slot-at.ensures
+returns c = entry_is _ _ c.slot_at-s.ensures
 
-pub entry-at-spec : {M : Type 1} → statement M
-entry-at-spec = tie.close (tie.spec (λ slot-at-requires κs. search rules) (λ cast-t6. search rules) returns)
+pub entry_at_spec : {M : Type 1} → statement M
+entry_at_spec =
+    tie.close
+    (tie.spec
+    (λ c κs. search rules)
+    (λ c. search rules)
+    returns)

@@ -8,5 +8,8 @@ returns : tie.Need-returns
 unfolding no_details
 returns c = refl
 
-pub no-entries-spec : {M : Type 1} → statement M
-no-entries-spec = tie.close (tie.spec returns)
+pub no_entries_spec : {M : Type 1} → statement M
+no_entries_spec =
+    tie.close
+    (tie.spec
+    returns)

@@ -8,29 +8,29 @@ use Rattle.screens.proofs.ScreenLaws.{shows-zeros, shows-slots}
 use Rattle.screens.proofs.slot_details.Statement.{statement}
 use Rattle.screens.proofs.slot_details.Tie as tie
 
-returns : tie.Need-returns
+returns : tie.Need-returns-then-number_of-ne0
 returns c =
-    let p = c.before.before in
-    shows-zeros details_of no_details _ _ _ p.before.header-check.ensures (λ q. c.before.if1.true (p.number_of_lem.ensures ∙ q)) c.no-entries.ensures
+    let p = c in
+    shows-zeros details_of no_details _ _ _ p.header_check-h.ensures (λ q. c.if-number_of-ne0.true (p.number_of.ensures ∙ q)) c.no_entries.ensures
 
-header_ok : (c : tie.Else1) → HeaderOk c.before.before.before.before.args.image.now
-header_ok c = sym c.before.before.header-check.ensures ∙ sym c.before.number_of_lem.ensures ∙ c.if1.false
+header_ok : (c : tie.Else-number_of-ne0) → HeaderOk c.args.image.now
+header_ok c = sym c.header_check-h.ensures ∙ sym c.number_of.ensures ∙ c.if-number_of-ne0.false
 
-all-entries-requires : tie.Need-all-entries-requires
+all-entries-requires : tie.Need-all_entries-requires
 all-entries-requires c κs = (sound _ (header_ok c)).size
 
-returns-2 : tie.Need-returns-2
+returns-2 : tie.Need-returns
 returns-2 c =
-    let p = c.before.before in
-    shows-slots details_of no_details _ _ _ p.before.header-check.ensures (sym p.number_of_lem.ensures ∙ c.before.if1.false) c.all-entries.ensures
+    let p = c in
+    shows-slots details_of no_details _ _ _ p.header_check-h.ensures (sym p.number_of.ensures ∙ c.if-number_of-ne0.false) c.all_entries.ensures
 
-pub slot-details-spec : {M : Type 1} → statement M
-slot-details-spec =
+pub slot_details_spec : {M : Type 1} → statement M
+slot_details_spec =
     tie.close
     (tie.spec
-    (λ header-check-requires κs. search rules)
-    (λ number-of-requires κs. search rules)
-    (λ no-entries-requires κs. search rules)
+    (λ c κs. search rules)
+    (λ c κs. search rules)
+    (λ c κs. search rules)
     returns
     all-entries-requires
     returns-2)

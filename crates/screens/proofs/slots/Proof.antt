@@ -8,28 +8,28 @@ use Rattle.screens.proofs.ScreenLaws.{shows-zeros, shows-slots}
 use Rattle.screens.proofs.slots.Statement.{statement}
 use Rattle.screens.proofs.slots.Tie as tie
 
-returns : tie.Need-returns
+returns : tie.Need-returns-then-number_of-ne0
 returns c =
-    let h = c.before.before.header-check in
-    shows-zeros enabled_bit 0 _ _ _ h.ensures (λ q. c.if1.true (c.before.number_of_lem.ensures ∙ q)) refl
+    let h = c.header_check-h in
+    shows-zeros enabled_bit 0 _ _ _ h.ensures (λ q. c.if-number_of-ne0.true (c.number_of.ensures ∙ q)) refl
 
-header_ok : (c : tie.Else1) → HeaderOk c.before.before.before.before.args.image.now
-header_ok c = sym c.before.before.header-check.ensures ∙ sym c.before.number_of_lem.ensures ∙ c.if1.false
+header_ok : (c : tie.Else-number_of-ne0) → HeaderOk c.args.image.now
+header_ok c = sym c.header_check-h.ensures ∙ sym c.number_of.ensures ∙ c.if-number_of-ne0.false
 
-enabled-bits-requires : tie.Need-enabled-bits-requires
+enabled-bits-requires : tie.Need-enabled_bits-requires
 enabled-bits-requires c κs = (sound _ (header_ok c)).size
 
-returns-2 : tie.Need-returns-2
+returns-2 : tie.Need-returns
 returns-2 c =
-    let p = c.before.before in
-    shows-slots enabled_bit 0 _ _ _ p.before.header-check.ensures (sym p.number_of_lem.ensures ∙ c.before.if1.false) c.enabled-bits.ensures
+    let p = c in
+    shows-slots enabled_bit 0 _ _ _ p.header_check-h.ensures (sym p.number_of.ensures ∙ c.if-number_of-ne0.false) c.enabled_bits.ensures
 
-pub slots-spec : {M : Type 1} → statement M
-slots-spec =
+pub slots_spec : {M : Type 1} → statement M
+slots_spec =
     tie.close
     (tie.spec
-    (λ header-check-requires κs. search rules)
-    (λ number-of-requires κs. search rules)
+    (λ c κs. search rules)
+    (λ c κs. search rules)
     returns
     enabled-bits-requires
     returns-2)

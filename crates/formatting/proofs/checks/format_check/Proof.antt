@@ -28,135 +28,135 @@ checks z salt =
 
 -- ---- places: the call, behind each test; the row
 
-abbrev start₁ : tie.Else1 → tie.Start
+abbrev start₁ : tie.Else-not-size_ok → tie.Start
 start₁ c = c.before.before.before.before.before
 
-abbrev start₂ : tie.Else2 → tie.Start
+abbrev start₂ : tie.Else-not-is_known → tie.Start
 start₂ c = start₁ c.before.before
 
-abbrev start₃ : tie.Else3 → tie.Start
+abbrev start₃ : tie.Else-not-stripes_ok → tie.Start
 start₃ c = start₂ c.before.before
 
-abbrev start₄ : tie.Else4 → tie.Start
+abbrev start₄ : tie.Else-key-key_bytes → tie.Start
 start₄ c = start₃ c.before.before.before
 
-abbrev start₅ : tie.Else5 → tie.Start
+abbrev start₅ : tie.Else-count-min_count → tie.Start
 start₅ c = start₄ c.before
 
-abbrev start₆ : tie.Else6 → tie.Start
+abbrev start₆ : tie.Else-not-uuid_ok → tie.Start
 start₆ c = start₅ c.before.before
 
-abbrev row : tie.Else6 → tie.After-profile-at
+abbrev row : tie.Else-not-uuid_ok → tie.After-profile_at-p
 row c = c.before.before.before.before.before
 
 -- ---- what has passed at each
 
-passed₁ : (c : tie.Else1) (salt : List ℕ) → Pass (take 1 (checks (start₁ c) salt))
+passed₁ : (c : tie.Else-not-size_ok) (salt : List ℕ) → Pass (take 1 (checks (start₁ c) salt))
 unfolding format_checks
-passed₁ c salt = (holds c.before.Size-ok.ensures c.if1.false, tt)
+passed₁ c salt = (holds c.size_ok.ensures c.if-not-size_ok.false, tt)
 
-passed₂ : (c : tie.Else2) (salt : List ℕ) → Pass (take 2 (checks (start₂ c) salt))
+passed₂ : (c : tie.Else-not-is_known) (salt : List ℕ) → Pass (take 2 (checks (start₂ c) salt))
 unfolding format_checks
-passed₂ c salt = pass_next (checks (start₂ c) salt) 1 (passed₁ c.before.before salt) (holds c.before.is_Known.ensures c.if2.false)
+passed₂ c salt = pass_next (checks (start₂ c) salt) 1 (passed₁ c.before.before salt) (holds c.is_known.ensures c.if-not-is_known.false)
 
-passed₃ : (c : tie.Else3) (salt : List ℕ) → Pass (take 3 (checks (start₃ c) salt))
+passed₃ : (c : tie.Else-not-stripes_ok) (salt : List ℕ) → Pass (take 3 (checks (start₃ c) salt))
 unfolding format_checks
-passed₃ c salt = pass_next (checks (start₃ c) salt) 2 (passed₂ c.before.before salt) (holds c.before.stripes_ok.ensures c.if3.false)
+passed₃ c salt = pass_next (checks (start₃ c) salt) 2 (passed₂ c.before.before salt) (holds c.stripes_ok.ensures c.if-not-stripes_ok.false)
 
-passed₄ : (c : tie.Else4) (salt : List ℕ) → Pass (take 4 (checks (start₄ c) salt))
+passed₄ : (c : tie.Else-key-key_bytes) (salt : List ℕ) → Pass (take 4 (checks (start₄ c) salt))
 unfolding format_checks
 passed₄ c salt =
-    let p = c.before.before in
-    pass_next (checks (start₄ c) salt) 3 (passed₃ p.before salt) (eq-eqb _ _ (c.if4.false ∙ p.profile-at.ensures.key_is))
+    let p = c in
+    pass_next (checks (start₄ c) salt) 3 (passed₃ p.before.before.before salt) (eq-eqb _ _ (c.if-key-key_bytes.false ∙ p.profile_at-p.ensures.key_is))
 
-passed₅ : (c : tie.Else5) (salt : List ℕ) → Pass (take 5 (checks (start₅ c) salt))
+passed₅ : (c : tie.Else-count-min_count) (salt : List ℕ) → Pass (take 5 (checks (start₅ c) salt))
 unfolding format_checks
 passed₅ c salt =
-    let p = c.before.before.before in
-    pass_next (checks (start₅ c) salt) 4 (passed₄ c.before salt) (le-leb _ _ (rw p.profile-at.ensures.checksum_count_is at c.if5.false))
+    let p = c in
+    pass_next (checks (start₅ c) salt) 4 (passed₄ c.before salt) (le-leb _ _ (rw p.profile_at-p.ensures.checksum_count_is at c.if-count-min_count.false))
 
-passed₆ : (c : tie.Else6) (salt : List ℕ) → Pass (take 6 (checks (start₆ c) salt))
+passed₆ : (c : tie.Else-not-uuid_ok) (salt : List ℕ) → Pass (take 6 (checks (start₆ c) salt))
 unfolding format_checks
-passed₆ c salt = pass_next (checks (start₆ c) salt) 5 (passed₅ c.before.before salt) (holds c.before.uuid-ok.ensures c.if6.false)
+passed₆ c salt = pass_next (checks (start₆ c) salt) 5 (passed₅ c.before.before salt) (holds c.uuid_ok.ensures c.if-not-uuid_ok.false)
 
 -- the payload's start is that of the rules' row
-payload_is : (c : tie.After-payload-start)
-    → let a = (start₆ c.before).args in c.payload-start.result.0 ≡ payload_start alignment a.stripes (profile_at rows a.profile).key_bytes
-payload_is c = c.payload-start.ensures.0 ∙ ap (payload_start alignment (start₆ c.before).args.stripes) (row c.before).profile-at.ensures.key_is
+payload_is : (c : tie.After-payload_start)
+    → let a = (start₆ c.before).args in c.payload_start.result.0 ≡ payload_start alignment a.stripes (profile_at rows a.profile).key_bytes
+payload_is c = c.payload_start.ensures.0 ∙ ap (payload_start alignment (start₆ c.before).args.stripes) (row c.before).profile_at-p.ensures.key_is
 
 -- ---- the needs
 
-returns : tie.Need-returns
+returns : tie.Need-returns-then-not-size_ok
 unfolding format_checks
-returns c salt = refused_by _ 0 tt (fails c.before.Size-ok.ensures c.if1.true)
+returns c salt = refused_by _ 0 tt (fails c.size_ok.ensures c.if-not-size_ok.true)
 
-returns-2 : tie.Need-returns-2
+returns-2 : tie.Need-returns-then-not-is_known
 unfolding format_checks
-returns-2 c salt = refused_by _ 1 (passed₁ c.before.before salt) (fails c.before.is_Known.ensures c.if2.true)
+returns-2 c salt = refused_by _ 1 (passed₁ c.before.before salt) (fails c.is_known.ensures c.if-not-is_known.true)
 
-returns-3 : tie.Need-returns-3
+returns-3 : tie.Need-returns-then-not-stripes_ok
 unfolding format_checks
-returns-3 c salt = refused_by _ 2 (passed₂ c.before.before salt) (fails c.before.stripes_ok.ensures c.if3.true)
+returns-3 c salt = refused_by _ 2 (passed₂ c.before.before salt) (fails c.stripes_ok.ensures c.if-not-stripes_ok.true)
 
-profile-at-requires : tie.Need-profile-at-requires
+profile-at-requires : tie.Need-profile_at-p-requires
 unfolding format_checks
 profile-at-requires c κs = (passed₃ c []).1.0
 
-returns-4 : tie.Need-returns-4
+returns-4 : tie.Need-returns-then-key-key_bytes
 unfolding format_checks
 returns-4 c salt =
-    let p = c.before.before in
-    refused_by _ 3 (passed₃ p.before salt) (ne_eqb _ _ (λ q. c.if4.true (q ∙ sym p.profile-at.ensures.key_is)))
+    let p = c in
+    refused_by _ 3 (passed₃ p.before.before.before salt) (ne_eqb _ _ (λ q. c.if-key-key_bytes.true (q ∙ sym p.profile_at-p.ensures.key_is)))
 
-returns-5 : tie.Need-returns-5
+returns-5 : tie.Need-returns-then-count-min_count
 unfolding format_checks
 returns-5 c salt =
-    let p = c.before.before.before in
-    refused_by _ 4 (passed₄ c.before salt) (lt-leb _ _ (rw p.profile-at.ensures.checksum_count_is at c.if5.true))
+    let p = c in
+    refused_by _ 4 (passed₄ c.before salt) (lt-leb _ _ (rw p.profile_at-p.ensures.checksum_count_is at c.if-count-min_count.true))
 
-returns-6 : tie.Need-returns-6
+returns-6 : tie.Need-returns-then-not-uuid_ok
 unfolding format_checks
-returns-6 c salt = refused_by _ 5 (passed₅ c.before.before salt) (fails c.before.uuid-ok.ensures c.if6.true)
+returns-6 c salt = refused_by _ 5 (passed₅ c.before.before salt) (fails c.uuid_ok.ensures c.if-not-uuid_ok.true)
 
-payload-start-requires : tie.Need-payload-start-requires
+payload-start-requires : tie.Need-payload_start-requires
 unfolding format_checks
 payload-start-requires c κs =
     let a = (start₆ c).args in
     let p = passed₆ c [] in (
       leb-true _ _ (and_split (leb 1 a.stripes) (leb a.stripes 4000) p.1.1.0).1,
-      omega (arith, (row c).profile-at.ensures.key_is, (lawful-row rows rows_ok a.profile p.1.0).key_most),
+      omega (arith, (row c).profile_at-p.ensures.key_is, (lawful-row rows rows_ok a.profile p.1.0).key_most),
     )
 
-returns-7 : tie.Need-returns-7
+returns-7 : tie.Need-returns-then-image-payload_start
 unfolding format_checks
 returns-7 c salt =
     let p = c.before.before in
-    refused_by _ 6 (passed₆ p.before salt) (lt-leb _ _ (rw (payload_is p) at c.if7.true))
+    refused_by _ 6 (passed₆ p.before salt) (lt-leb _ _ (rw (payload_is p) at c.if-image-payload_start.true))
 
-returns-8 : tie.Need-returns-8
+returns-8 : tie.Need-returns
 unfolding format_checks
 returns-8 c salt =
     let p = c.before.before in
-    all_pass _ (pass_next (checks (start₆ p.before) salt) 6 (passed₆ p.before salt) (le-leb _ _ (rw (payload_is p) at c.if7.false)))
+    all_pass _ (pass_next (checks (start₆ p.before) salt) 6 (passed₆ p.before salt) (le-leb _ _ (rw (payload_is p) at c.if-image-payload_start.false)))
 
-pub format-check-spec : {M : Type 1} → statement M
-format-check-spec =
+pub format_check_spec : {M : Type 1} → statement M
+format_check_spec =
     tie.close
     (tie.spec
-    (λ size-ok-requires κs. search rules)
+    (λ c κs. search rules)
     returns
-    (λ is-known-requires κs. search rules)
+    (λ c κs. search rules)
     returns-2
-    (λ stripes-ok-requires κs. search rules)
+    (λ c κs. search rules)
     returns-3
     profile-at-requires
-    (λ cast-key-bytes. search rules)
+    (λ c. search rules)
     returns-4
     returns-5
-    (λ uuid-ok-requires κs. search rules)
+    (λ c κs. search rules)
     returns-6
     payload-start-requires
-    (λ cast-if7. search rules)
-    (λ mul-if7. search rules)
+    (λ c. search rules)
+    (λ c. search rules)
     returns-7
     returns-8)

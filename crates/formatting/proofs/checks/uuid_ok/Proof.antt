@@ -23,72 +23,72 @@ unfolding every printable
 printable-every [] = refl
 printable-every (x ∷ u) = ap (λ (b : Bool). in_range x && b) (printable-every u) ∙ and_assoc (leb 33 x) (leb x 126) (printable u)
 
-abbrev invariant_loop : tie.invariant_loop
+abbrev invariant_loop : tie.invariant-loop-i
 invariant_loop uuid i₀ i = (i ≤ 36) × (every in_range (drop i uuid) ≡ printable uuid)
 
-abbrev decreases_loop : tie.decreases_loop
+abbrev decreases_loop : tie.decreases-loop-i
 decreases_loop uuid i₀ i = 36 - i
 
 -- ---- a turn, and its byte
 
-abbrev turn : tie.After-shared-slice-known2 invariant_loop decreases_loop → tie.At-loop invariant_loop decreases_loop
+abbrev turn : tie.After-shared_slice_known-in-loop-i-1 invariant_loop decreases_loop → tie.At-loop-i invariant_loop decreases_loop
 turn c = c.before.before.before.before
 
-abbrev uuid : tie.At-loop invariant_loop decreases_loop → List ℕ
-uuid c = c.before.before.args.uuid.now
+abbrev uuid : tie.At-loop-i invariant_loop decreases_loop → List ℕ
+uuid c = c.args.uuid.now
 
-abbrev byte : tie.At-loop invariant_loop decreases_loop → ℕ
-byte c = get_or (uuid c) c.loop.i 0
+abbrev byte : tie.At-loop-i invariant_loop decreases_loop → ℕ
+byte c = get_or (uuid c) c.loop-i.i 0
 
 -- of 36 bytes, whether they are printable decides
-decided : (c : tie.At-loop invariant_loop decreases_loop) (x : Bool) → x ≡ printable (uuid c) → x ≡ (eqb (length (uuid c)) 36 && printable (uuid c))
-decided c x e = let u = uuid c in and_yes (eqb (length u) 36) (printable u) x (eq-eqb (length u) 36 c.before.if1.false) e
+decided : (c : tie.At-loop-i invariant_loop decreases_loop) (x : Bool) → x ≡ printable (uuid c) → x ≡ (eqb (length (uuid c)) 36 && printable (uuid c))
+decided c x e = let u = uuid c in and_yes (eqb (length u) 36) (printable u) x (eq-eqb (length u) 36 c.if-uuid-ne36.false) e
 
 -- and so does a byte out of range
-out : (c : tie.At-loop invariant_loop decreases_loop) → c.loop.i < length (uuid c) → in_range (byte c) ≡ false → false ≡ (eqb (length (uuid c)) 36 && printable (uuid c))
-out c h e = decided c false (every-no in_range 0 (uuid c) c.loop.i (printable (uuid c)) c.loop.invariant.1 h e)
+out : (c : tie.At-loop-i invariant_loop decreases_loop) → c.loop-i.i < length (uuid c) → in_range (byte c) ≡ false → false ≡ (eqb (length (uuid c)) 36 && printable (uuid c))
+out c h e = decided c false (every-no in_range 0 (uuid c) c.loop-i.i (printable (uuid c)) c.loop-i.invariant.1 h e)
 
-returns : tie.Need-returns invariant_loop decreases_loop
-returns c = let u = c.before.args.uuid.now in and_no (eqb (length u) 36) (printable u) (ne_eqb (length u) 36 c.if1.true)
+returns : tie.Need-returns-then-uuid-ne36 invariant_loop decreases_loop
+returns c = let u = c.args.uuid.now in and_no (eqb (length u) 36) (printable u) (ne_eqb (length u) 36 c.if-uuid-ne36.true)
 
-loop-holds : tie.Need-loop-init invariant_loop decreases_loop
-loop-holds c = (omega arith, printable-every c.before.args.uuid.now)
+loop-holds : tie.Need-loop-i-init invariant_loop decreases_loop
+loop-holds c = (omega arith, printable-every c.args.uuid.now)
 
-returns-2 : tie.Need-returns-2 invariant_loop decreases_loop
+returns-2 : tie.Need-returns-then-uuid-i-lt33 invariant_loop decreases_loop
 returns-2 c =
     let t = c.before.before.before in
-    out t (omega arith) (sym (and_no (leb 33 (byte t)) (leb (byte t) 126) (lt-leb 33 (byte t) c.if2.true)))
+    out t (omega arith) (sym (and_no (leb 33 (byte t)) (leb (byte t) 126) (lt-leb 33 (byte t) c.if-uuid-i-lt33.true)))
 
-returns-3 : tie.Need-returns-3 invariant_loop decreases_loop
+returns-3 : tie.Need-returns-then-uuid-i-gt126 invariant_loop decreases_loop
 returns-3 c =
     let t = turn c.before in
-    out t (omega arith) (and-false (leb 33 (byte t)) (leb (byte t) 126) (lt-leb (byte t) 126 c.if3.true))
+    out t (omega arith) (and-false (leb 33 (byte t)) (leb (byte t) 126) (lt-leb (byte t) 126 c.if-uuid-i-gt126.true))
 
-loop-again : tie.Need-loop-preserved invariant_loop decreases_loop
+loop-again : tie.Need-loop-i-preserved invariant_loop decreases_loop
 loop-again c =
     let t = turn c.before in
-    let i = t.loop.i in
-    let well = and_both (leb 33 (byte t)) (leb (byte t) 126) (le-leb 33 (byte t) c.before.before.if2.false) (le-leb (byte t) 126 c.if3.false) in
-    (omega arith, every_yes in_range 0 (uuid t) i (printable (uuid t)) t.loop.invariant.1 (omega arith) well)
+    let i = t.loop-i.i in
+    let well = and_both (leb 33 (byte t)) (leb (byte t) 126) (le-leb 33 (byte t) c.if-uuid-i-lt33.false) (le-leb (byte t) 126 c.if-uuid-i-gt126.false) in
+    (omega arith, every_yes in_range 0 (uuid t) i (printable (uuid t)) t.loop-i.invariant.1 (omega arith) well)
 
-returns-4 : tie.Need-returns-4 invariant_loop decreases_loop
+returns-4 : tie.Need-returns invariant_loop decreases_loop
 returns-4 c =
     let t = c.before in
-    decided t true (every-end in_range 0 (uuid t) t.loop.i (printable (uuid t)) t.loop.invariant.1 (omega arith))
+    decided t true (every-end in_range 0 (uuid t) t.loop-i.i (printable (uuid t)) t.loop-i.invariant.1 (omega arith))
 
-pub uuid-ok-spec : {M : Type 1} → statement M
-uuid-ok-spec =
+pub uuid_ok_spec : {M : Type 1} → statement M
+uuid_ok_spec =
     tie.close
     (tie.spec
     invariant_loop
     decreases_loop
     returns
     loop-holds
-    (λ shared-slice-read-if2. search rules)
+    (λ c. search rules)
     returns-2
-    (λ shared-slice-read-if3. search rules)
+    (λ c. search rules)
     returns-3
-    (λ add-i. search rules)
-    (λ loop-less. search rules)
+    (λ c. search rules)
+    (λ c. search rules)
     loop-again
     returns-4)

@@ -7,12 +7,17 @@ use Rattle.formatting.proofs.fields.put_be32.Tie as tie
 
 returns : tie.Need-returns
 returns c =
-    let w = c.before.before in
-    let b = w.before.before.before in
-    let a = b.before.before.args in
-    w.copy-into.ensures ∙ ap (splice a.h.now a.at) b.be32.ensures
+    let w = c in
+    let b = w in
+    let a = b.args in
+    w.copy_into.ensures ∙ ap (splice a.h.now a.at) b.be32-b.ensures
 
-pub put-be32-spec : {M : Type 1} → statement M
-put-be32-spec =
+pub put_be32_spec : {M : Type 1} → statement M
+put_be32_spec =
     tie.close
-    (tie.spec (λ be32-requires κs. search rules) (λ slice-aggregate-copy-into. search rules) (λ copy-into-requires κs. search rules) (λ same_length. search rules) returns)
+    (tie.spec
+    (λ c κs. search rules)
+    (λ c. search rules)
+    (λ c κs. search rules)
+    (λ c. search rules)
+    returns)

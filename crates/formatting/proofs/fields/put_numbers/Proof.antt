@@ -13,41 +13,41 @@ use Rattle.formatting.proofs.fields.put_numbers.Tie as tie
 
 returns : tie.Need-returns
 returns c =
-    let c₆ = c.before.before in
-    let c₅ = c₆.before.before.before.before.before in
-    let c₄ = c₅.before.before.before.before in
-    let c₃ = c₄.before.before.before.before.before in
-    let c₂ = c₃.before.before.before.before.before in
-    let c₁ = c₂.before.before.before.before in
-    let p = c₁.before.before in
-    let z = p.before.before.before.before in
+    let c₆ = c in
+    let c₅ = c₆ in
+    let c₄ = c₅ in
+    let c₃ = c₄ in
+    let c₂ = c₃ in
+    let c₁ = c₂ in
+    let p = c₁ in
+    let z = p in
     let a = z.args in
     let u : length a.uuid.now ≤ 40 = omega (arith, z.requires.3) in
-    let w = number-widths (payload_start alignment a.stripes a.key-bytes) a.key-bytes a.sum.now a.salt.now a.count (padded 40 a.uuid.now)
-    c₃.before.copy-into-arg2.given.0 c₄.before.copy-into-arg4.given.0 (length-padded 40 a.uuid.now u) in
+    let w = number-widths (payload_start alignment a.stripes a.key_bytes) a.key_bytes a.sum.now a.salt.now a.count (padded 40 a.uuid.now)
+    c₃.copy_into-arg-2-1.given c₄.copy_into-arg-4-1.given (length-padded 40 a.uuid.now u) in
     rw (
-      c₆.copy-into3.ensures,
-      c₅.put-be323.ensures,
-      c₄.copy-into2.ensures,
-      c₃.copy-into.ensures,
-      c₂.put-be322.ensures,
-      c₁.put-be32.ensures,
-      p.payload-start.ensures.0,
-      p.before.uuid-field.ensures,
+      c₆.copy_into-3.ensures,
+      c₅.put_be32-3.ensures,
+      c₄.copy_into-2.ensures,
+      c₃.copy_into.ensures,
+      c₂.put_be32-2.ensures,
+      c₁.put_be32.ensures,
+      p.payload_start-payload.ensures.0,
+      p.uuid_field-field.ensures,
     ) (in_order _ number_widths w a.h.now 104 (omega arith))
 
-pub put-numbers-spec : {M : Type 1} → statement M
-put-numbers-spec =
+pub put_numbers_spec : {M : Type 1} → statement M
+put_numbers_spec =
     tie.close
     (tie.spec
-    (λ uuid-field-requires κs. search rules)
-    (λ payload-start-requires κs. search rules)
-    (λ put-be32-requires κs. search rules)
-    (λ put-be32-requires-2 κs. search rules)
-    (λ copy-into-requires κs. search rules)
-    (λ copy_into_requires_2 κs. search rules)
-    (λ put-be32-requires-3 κs. search rules)
-    (λ slice-aggregate-copy-into. search rules)
-    (λ copy_into_requires_3 κs. search rules)
-    (λ same_length. search rules)
+    (λ c κs. search rules)
+    (λ c κs. search rules)
+    (λ c κs. search rules)
+    (λ c κs. search rules)
+    (λ c κs. search rules)
+    (λ c κs. search rules)
+    (λ c κs. search rules)
+    (λ c. search rules)
+    (λ c κs. search rules)
+    (λ c. search rules)
     returns)

@@ -7,7 +7,12 @@ use Rattle.formatting.proofs.fields.uuid_field.Tie as tie
 
 returns : tie.Need-returns
 unfolding zeros
-returns c = splice-padded 40 c.before.before.before.before.args.uuid.now _ c.before.copy-into.ensures
+returns c = splice-padded 40 c.args.uuid.now _ c.copy_into.ensures
 
-pub uuid-field-spec : {M : Type 1} → statement M
-uuid-field-spec = tie.close (tie.spec (λ slice-aggregate-copy-into. search rules) (λ copy-into-requires κs. search rules) returns)
+pub uuid_field_spec : {M : Type 1} → statement M
+uuid_field_spec =
+    tie.close
+    (tie.spec
+    (λ c. search rules)
+    (λ c κs. search rules)
+    returns)

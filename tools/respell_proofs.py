@@ -20,8 +20,13 @@ TOKEN = r"[^\s(){}\[\];,.:«»\"`|]+"
 OF_A_STEP = "result ensures new auto invariant true false branch is given told".split()
 
 
+# What tools/respell_names.py called fields of records, where a step has a function's name.
+STEPS = {f"{n}_passes": f"{n}_ok" for n in ("count", "random", "filler", "list", "passphrase")}
+
+
 def norm(word):
     word = word.lower().replace("-", "_")
+    word = STEPS.get(word, word)
     return word[: -len("_lem")] if word.endswith("_lem") else word
 
 

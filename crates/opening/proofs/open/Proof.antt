@@ -38,7 +38,7 @@ header_ok : (c : tie.Else-number_of-ne0) → HeaderOk (at_1 c).args.image.now
 header_ok c = sym c.header_check-h.ensures ∙ sym c.number_of.ensures ∙ c.if-number_of-ne0.false
 
 passphrase_passes : (c : tie.Else-not-passphrase_ok) → passphrase_ok (at_1 (at-2 c)).args.passphrase.now ≡ true
-passphrase_passes c = holds c.passphrase_passes.ensures c.if-not-passphrase_ok.false
+passphrase_passes c = holds c.passphrase_ok.ensures c.if-not-passphrase_ok.false
 
 early_ok : (c : tie.Else-not-passphrase_ok) → let s = at_1 (at-2 c) in first (early_checks (facts s) (call s)) ≡ 0
 unfolding early_checks
@@ -58,7 +58,7 @@ returns c =
 returns-2 : tie.Need-returns-then-not-passphrase_ok
 unfolding early_checks
 returns-2 c =
-    let t = c.passphrase_passes in
+    let t = c.passphrase_ok in
     let p = c.before.before.before in
     let s = at_1 p in
     let m = s.args.image.now in

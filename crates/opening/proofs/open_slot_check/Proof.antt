@@ -32,7 +32,7 @@ passed₁ c = (number_ok c, tt)
 
 passed₂ : (c : tie.Else-not-fits) → Pass (take 2 (list (start₂ c)))
 unfolding early_checks
-passed₂ c = pass_next (list (start₂ c)) 1 (passed₁ c.before.before.before) (holds c.passphrase_passes.ensures c.if-not-fits.false)
+passed₂ c = pass_next (list (start₂ c)) 1 (passed₁ c.before.before.before) (holds c.passphrase_ok-fits.ensures c.if-not-fits.false)
 
 -- ---- needs
 
@@ -45,7 +45,7 @@ slot-enabled-requires c κs = ((start₁ c.before).requires, number_ok c.before)
 
 returns-2 : tie.Need-returns-then-not-fits
 unfolding early_checks
-returns-2 c = refused_by _ 1 (passed₁ c.before.before.before) (fails c.passphrase_passes.ensures c.if-not-fits.true)
+returns-2 c = refused_by _ 1 (passed₁ c.before.before.before) (fails c.passphrase_ok-fits.ensures c.if-not-fits.true)
 
 returns-3 : tie.Need-returns-then-not-enabled
 unfolding early_checks

@@ -111,7 +111,7 @@ def pair(olds, needs):
     return out
 
 
-def paths_of(text, fields, callee, muts):
+def paths_of(text, fields, callee, muts, facts):
     """The paths of one definition: the first field that is none of the way back is a place's, and every place has the fields of those before it;
     what a call changed goes by the names of its parameters."""
     inner, call_of = set(), {}
@@ -122,6 +122,8 @@ def paths_of(text, fields, callee, muts):
         return f"let {m.group(1)} = {m.group(2)} in" if all(uses[1:]) else m.group(0)
 
     text = re.sub(r"\blet (" + TOKEN + r") = (" + TOKEN + r")(?:\.before)+ in(?=\s)", way, text)
+    for name, step, way in facts:
+        text = re.sub(TOKEN + r"(?:\.before)*\." + step + r"(?:-[\w-]*)?\." + re.escape(way) + r"(?![\w'-])", "c." + name, text)
     arm = re.search(r"tie\.Need-(?:" + TOKEN + r"-)?(in-[A-Z]\w*)", text) or re.search(r"tie\.(?:After|In)-(?:" + TOKEN + r"-)?([iI]n-[A-Z]\w*)", text)
     if arm:
         text = re.sub(TOKEN + r"(?:\.before)*\.enum[-_]told(?:" + TOKEN + r")?\.given\.1", "c.i" + arm.group(1)[1:] + ".is", text)
@@ -171,7 +173,14 @@ class Way:
 
     def __init__(self, text, it):
         names = dict(zip((p[0] for p in it["places"]), it["places_by_name"]))
-        self.parent = {names[p[0]]: names.get(p[1]) for p in it["places"]}
+        above = {p[0]: p[1] for p in it["places"]}
+        self.parent = {}
+        for p, arm in zip(it["places"], it["arms"]):
+            # the places of an arm are one
+            up = p[0]
+            for _ in range(arm[1] if arm else 1):
+                up = above.get(up)
+            self.parent[names[p[0]]] = names.get(up)
         self.goal = {n[1]: at[1] for n, at in zip(it["needs"], it["asked_at"])}
         self.takes, self.gives, self.notes = {}, {}, []
         place = r"tie\.(" + TOKEN + r")((?: [\w-]+)*)"
@@ -325,7 +334,12 @@ def respell(text, it, muts, params, function):
             if p[3]:
                 callee[n] = (p[3].split("::")[0], p[3].split("::")[-1])
 
-    head = "\n\n".join(paths_of(part, fields, callee, muts) for part in head.split("\n\n"))
+    facts = set()
+    for arm in it["arms"]:
+        for f in arm[2] if arm else []:
+            if f[2]:
+                facts.add((f"{arm[0]}.{f[0]}", f[1].replace("_", "[-_]"), ".".join(f[2])))
+    head = "\n\n".join(paths_of(part, fields, callee, muts, facts) for part in head.split("\n\n"))
 
     # parameters by their names in the source
     for name in params.get(function, ()):

@@ -73,25 +73,25 @@ returns-3 : tie.Need-returns-in_default
 unfolding late_checks test_cost
 returns-3 c =
     let t = c in
-    let e = t.before.before.before.before in
+    let e = t.before.before.before in
     let s = at_1 (at-2 e) in
     let m = s.args.image.now in
-    let none = sym t.find_slot-s.ensures.any_is ∙ ap is_any c.enum_told-1.given.1 in
+    let none = sym t.find_slot-s.ensures.any_is ∙ ap is_any c.in_default.is in
     opens-refused m (call s) (no-key_any s.args.passphrase.now) c.refused-in_default.ensures
     (step-late built m (call s) (header_ok (at-2 e)) (early_ok e) 17 (λ q. omega arith) (refused_by (late_checks (facts s) (call s)) 0 tt none)
     t.find_slot-s.result.values t.find_slot-s.ensures.values_are)
 
 key-bytes-requires : tie.Need-key_bytes-requires
 key-bytes-requires c κs =
-    let p = at-2 c.before.before.before.before.before in
+    let p = at-2 c.before.before.before in
     (sound (at_1 p).args.image.now (header_ok p)).named
 
 returns-4 : tie.Need-returns
 unfolding late_checks answer opened test_cost work_cost
 returns-4 c =
-    let found = c.found-1.given.1 in
+    let found = c.in-At.is in
     let t = c in
-    let e = t.before.before.before.before.before.before in
+    let e = t.before.before.before.before in
     let s = at_1 (at-2 e) in
     let m = s.args.image.now in
     let r = t.find_slot-s.ensures in

@@ -17,7 +17,7 @@ TOKEN = r"[^\s(){}\[\];,.:«»\"`|]+"
 
 
 # What stands behind a step's name in a path.
-OF_A_STEP = "result ensures new auto invariant true false branch is given told".split()
+OF_A_STEP = "result ensures new auto invariant true false branch is given told taken left".split()
 
 
 # What tools/respell_names.py called fields of records, where a step has a function's name.
@@ -358,16 +358,20 @@ def respell(text, it, muts, params, function):
     head = re.sub(r"(-arg-[\w-]+)\.given\.0(?![\w'-])", r"\1.given", head)
     head = re.sub(r"(\((?:digest_of|compression_of) [^()]*\))\.size-[\w-]+", r"\1.size", head)
     head = re.sub(r"\.pre\b", ".requires", head)
+    way = Way(head, it)
+    head = "\n\n".join(way.definition(part) for part in head.split("\n\n"))
+    notes += way.notes
     lines = []
     for j, m in enumerate(match):
         a = answers[m] if m is not None else None
         if a is None or re.match(r"\(λ " + TOKEN + r"( κs)?\. search rules\)$", a):
             tail = " κs" if needs[j][1].endswith("requires") or re.search(r"-requires(-|$)", needs[j][1]) else ""
             a = f"(λ c{tail}. search rules)"
+        inline = re.match(r"\(λ (" + TOKEN + r")[^.]*\.", a)
+        if inline and "search rules)" not in a:
+            way.at = {inline.group(1): it["asked_at"][j][1]}
+            a = way.calls(paths_of(a, fields, callee, muts, facts))
         lines.append("    " + a)
-    way = Way(head, it)
-    head = "\n\n".join(way.definition(part) for part in head.split("\n\n"))
-    notes += way.notes
     lines = ["    " + s for s in stated] + lines
     proof = f"\npub {function}_spec : {{M : Type 1}} → statement M\n{function}_spec =\n    tie.close\n    (tie.spec\n"
     return head + proof + "\n".join(lines) + ")\n", notes

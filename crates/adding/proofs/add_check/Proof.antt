@@ -22,115 +22,115 @@ checks s salt =
 
 -- ---- places: the call, behind each test
 
-abbrev start₁ : tie.Else1 → tie.Start
+abbrev start₁ : tie.Else-not-slot_number_ok → tie.Start
 start₁ c = c.before.before.before.before.before.before.before
 
-abbrev start₂ : tie.Else2 → tie.Start
+abbrev start₂ : tie.Else-slot_enabled → tie.Start
 start₂ c = start₁ c.before.before
 
-abbrev start₃ : tie.Else3 → tie.Start
+abbrev start₃ : tie.Else-not-key_ok → tie.Start
 start₃ c = start₂ c.before.before
 
-abbrev start₄ : tie.Else4 → tie.Start
+abbrev start₄ : tie.Else-not-passphrase_ok → tie.Start
 start₄ c = start₃ c.before.before
 
-abbrev start₅ : tie.Else5 → tie.Start
+abbrev start₅ : tie.Else-not-count_ok → tie.Start
 start₅ c = start₄ c.before.before
 
-abbrev start₆ : tie.Else6 → tie.Start
+abbrev start₆ : tie.Else-not-random_ok → tie.Start
 start₆ c = start₅ c.before.before
 
-abbrev start₇ : tie.Else7 → tie.Start
+abbrev start₇ : tie.Else-not-list_ok → tie.Start
 start₇ c = start₆ c.before.before
 
 -- ---- what has passed at each
 
-passed₁ : (c : tie.Else1) (salt : List ℕ) → Pass (take 1 (checks (start₁ c) salt))
+passed₁ : (c : tie.Else-not-slot_number_ok) (salt : List ℕ) → Pass (take 1 (checks (start₁ c) salt))
 unfolding early_checks
-passed₁ c salt = (holds c.before.slot-number-ok.ensures c.if1.false, tt)
+passed₁ c salt = (holds c.slot_number_ok.ensures c.if-not-slot_number_ok.false, tt)
 
-passed₂ : (c : tie.Else2) (salt : List ℕ) → Pass (take 2 (checks (start₂ c) salt))
+passed₂ : (c : tie.Else-slot_enabled) (salt : List ℕ) → Pass (take 2 (checks (start₂ c) salt))
 unfolding early_checks
-passed₂ c salt = pass_next (checks (start₂ c) salt) 1 (passed₁ c.before.before salt) (ap not (sym c.before.slot-enabled.ensures ∙ c.if2.false))
+passed₂ c salt = pass_next (checks (start₂ c) salt) 1 (passed₁ c.before.before salt) (ap not (sym c.slot_enabled.ensures ∙ c.if-slot_enabled.false))
 
-passed₃ : (c : tie.Else3) (salt : List ℕ) → Pass (take 3 (checks (start₃ c) salt))
+passed₃ : (c : tie.Else-not-key_ok) (salt : List ℕ) → Pass (take 3 (checks (start₃ c) salt))
 unfolding early_checks
-passed₃ c salt = pass_next (checks (start₃ c) salt) 2 (passed₂ c.before.before salt) (holds c.before.key-ok.ensures c.if3.false)
+passed₃ c salt = pass_next (checks (start₃ c) salt) 2 (passed₂ c.before.before salt) (holds c.key_ok.ensures c.if-not-key_ok.false)
 
-passed₄ : (c : tie.Else4) (salt : List ℕ) → Pass (take 4 (checks (start₄ c) salt))
+passed₄ : (c : tie.Else-not-passphrase_ok) (salt : List ℕ) → Pass (take 4 (checks (start₄ c) salt))
 unfolding early_checks
-passed₄ c salt = pass_next (checks (start₄ c) salt) 3 (passed₃ c.before.before salt) (holds c.before.passphrase_passes.ensures c.if4.false)
+passed₄ c salt = pass_next (checks (start₄ c) salt) 3 (passed₃ c.before.before salt) (holds c.passphrase_ok.ensures c.if-not-passphrase_ok.false)
 
-passed₅ : (c : tie.Else5) (salt : List ℕ) → Pass (take 5 (checks (start₅ c) salt))
+passed₅ : (c : tie.Else-not-count_ok) (salt : List ℕ) → Pass (take 5 (checks (start₅ c) salt))
 unfolding early_checks
-passed₅ c salt = pass_next (checks (start₅ c) salt) 4 (passed₄ c.before.before salt) (holds c.before.count_passes.ensures c.if5.false)
+passed₅ c salt = pass_next (checks (start₅ c) salt) 4 (passed₄ c.before.before salt) (holds c.count_ok.ensures c.if-not-count_ok.false)
 
-passed₆ : (c : tie.Else6) (salt : List ℕ) → Pass (take 6 (checks (start₆ c) salt))
+passed₆ : (c : tie.Else-not-random_ok) (salt : List ℕ) → Pass (take 6 (checks (start₆ c) salt))
 unfolding early_checks
-passed₆ c salt = pass_next (checks (start₆ c) salt) 5 (passed₅ c.before.before salt) (holds c.before.random_passes.ensures c.if6.false)
+passed₆ c salt = pass_next (checks (start₆ c) salt) 5 (passed₅ c.before.before salt) (holds c.random_ok.ensures c.if-not-random_ok.false)
 
-passed₇ : (c : tie.Else7) (salt : List ℕ) → Pass (checks (start₇ c) salt)
+passed₇ : (c : tie.Else-not-list_ok) (salt : List ℕ) → Pass (checks (start₇ c) salt)
 unfolding early_checks
-passed₇ c salt = pass_next (checks (start₇ c) salt) 6 (passed₆ c.before.before salt) (holds c.before.list_passes.ensures c.if7.false)
+passed₇ c salt = pass_next (checks (start₇ c) salt) 6 (passed₆ c.before.before salt) (holds c.list_ok.ensures c.if-not-list_ok.false)
 
 -- ---- needs
 
-returns : tie.Need-returns
+returns : tie.Need-returns-then-not-slot_number_ok
 unfolding early_checks
-returns c salt = refused_by _ 0 tt (fails c.before.slot-number-ok.ensures c.if1.true)
+returns c salt = refused_by _ 0 tt (fails c.slot_number_ok.ensures c.if-not-slot_number_ok.true)
 
-slot-enabled-requires : tie.Need-slot-enabled-requires
+slot-enabled-requires : tie.Need-slot_enabled-requires
 unfolding early_checks
 slot-enabled-requires c κs = ((start₁ c).requires, (passed₁ c []).0)
 
-returns-2 : tie.Need-returns-2
+returns-2 : tie.Need-returns-then-slot_enabled
 unfolding early_checks
-returns-2 c salt = refused_by _ 1 (passed₁ c.before.before salt) (ap not (sym c.before.slot-enabled.ensures ∙ c.if2.true))
+returns-2 c salt = refused_by _ 1 (passed₁ c.before.before salt) (ap not (sym c.slot_enabled.ensures ∙ c.if-slot_enabled.true))
 
-returns-3 : tie.Need-returns-3
+returns-3 : tie.Need-returns-then-not-key_ok
 unfolding early_checks
-returns-3 c salt = refused_by _ 2 (passed₂ c.before.before salt) (fails c.before.key-ok.ensures c.if3.true)
+returns-3 c salt = refused_by _ 2 (passed₂ c.before.before salt) (fails c.key_ok.ensures c.if-not-key_ok.true)
 
-returns-4 : tie.Need-returns-4
+returns-4 : tie.Need-returns-then-not-passphrase_ok
 unfolding early_checks
-returns-4 c salt = refused_by _ 3 (passed₃ c.before.before salt) (fails c.before.passphrase_passes.ensures c.if4.true)
+returns-4 c salt = refused_by _ 3 (passed₃ c.before.before salt) (fails c.passphrase_ok.ensures c.if-not-passphrase_ok.true)
 
-returns-5 : tie.Need-returns-5
+returns-5 : tie.Need-returns-then-not-count_ok
 unfolding early_checks
-returns-5 c salt = refused_by _ 4 (passed₄ c.before.before salt) (fails c.before.count_passes.ensures c.if5.true)
+returns-5 c salt = refused_by _ 4 (passed₄ c.before.before salt) (fails c.count_ok.ensures c.if-not-count_ok.true)
 
-random-ok-requires : tie.Need-random-ok-requires
+random-ok-requires : tie.Need-random_ok-requires
 unfolding early_checks
 random-ok-requires c κs = ((start₅ c).requires, (passed₅ c []).0)
 
-returns-6 : tie.Need-returns-6
+returns-6 : tie.Need-returns-then-not-random_ok
 unfolding early_checks
-returns-6 c salt = refused_by _ 5 (passed₅ c.before.before salt) (fails c.before.random_passes.ensures c.if6.true)
+returns-6 c salt = refused_by _ 5 (passed₅ c.before.before salt) (fails c.random_ok.ensures c.if-not-random_ok.true)
 
-list-ok-requires : tie.Need-list-ok-requires
+list-ok-requires : tie.Need-list_ok-requires
 unfolding early_checks
 list-ok-requires c κs = ((start₆ c).requires, (passed₆ c []).0)
 
-returns-7 : tie.Need-returns-7
+returns-7 : tie.Need-returns-then-not-list_ok
 unfolding early_checks
-returns-7 c salt = refused_by _ 6 (passed₆ c.before.before salt) (fails c.before.list_passes.ensures c.if7.true)
+returns-7 c salt = refused_by _ 6 (passed₆ c.before.before salt) (fails c.list_ok.ensures c.if-not-list_ok.true)
 
-returns-8 : tie.Need-returns-8
+returns-8 : tie.Need-returns
 returns-8 c salt = all_pass (checks (start₇ c) salt) (passed₇ c salt)
 
-pub add-check-spec : {M : Type 1} → statement M
-add-check-spec =
+pub add_check_spec : {M : Type 1} → statement M
+add_check_spec =
     tie.close
     (tie.spec
-    (λ slot-number-ok-requires κs. search rules)
+    (λ c κs. search rules)
     returns
     slot-enabled-requires
     returns-2
-    (λ key-ok-requires κs. search rules)
+    (λ c κs. search rules)
     returns-3
-    (λ passphrase-ok-requires κs. search rules)
+    (λ c κs. search rules)
     returns-4
-    (λ count-ok-requires κs. search rules)
+    (λ c κs. search rules)
     returns-5
     random-ok-requires
     returns-6

@@ -52,124 +52,124 @@ recovered s = candidate (facts s) s.args.from s.args.old.now
 
 -- ---- where the header is accepted
 
-abbrev start₁ : tie.After-number-of → tie.Start
-start₁ c = c.before.before.before.before.before.before.before.before.before
+abbrev start₁ : tie.After-number_of → tie.Start
+start₁ c = c.before.before.before.before.before.before.before.before
 
-header_ok : (c : tie.Else1) → HeaderOk (start₁ c.before).args.image.now
-header_ok c = sym c.before.before.header-check.ensures ∙ sym c.before.number_of_lem.ensures ∙ c.if1.false
+header_ok : (c : tie.Else-number_of-ne0) → HeaderOk (start₁ c.before).args.image.now
+header_ok c = sym c.header_check-h.ensures ∙ sym c.number_of.ensures ∙ c.if-number_of-ne0.false
 
 -- ---- where the early checks have passed
 
-abbrev checked : tie.After-number-of2 → tie.Else1
-checked c = c.before.before.before.before
+abbrev checked : tie.After-number_of-2 → tie.Else-number_of-ne0
+checked c = c.before.before
 
-abbrev start₂ : tie.After-number-of2 → tie.Start
+abbrev start₂ : tie.After-number_of-2 → tie.Start
 start₂ c = start₁ (checked c).before
 
-early-zero : (c : tie.Else2) → first (early (start₂ c.before)) ≡ 0
-early-zero c = sym (c.before.before.change-check.ensures (start₂ c.before).args.salt.now) ∙ sym c.before.number-of2.ensures ∙ c.if2.false
+early-zero : (c : tie.Else-number_of-ne0-2) → first (early (start₂ c.before)) ≡ 0
+early-zero c = sym (c.change_check-r.ensures (start₂ c.before).args.salt.now) ∙ sym c.number_of-2.ensures ∙ c.if-number_of-ne0-2.false
 
-fit : (c : tie.Else2) → let s = start₂ c.before in Given (facts s) s.args.from s.args.old.now s.args.to (input s) s.args.filler.now s.args.list.now
+fit : (c : tie.Else-number_of-ne0-2) → let s = start₂ c.before in Given (facts s) s.args.from s.args.old.now s.args.to (input s) s.args.filler.now s.args.list.now
 fit c =
     let s = start₂ c.before in
     given (facts s) s.args.from s.args.old.now s.args.to (input s) s.args.filler.now s.args.list.now (early-zero c)
 
 -- ---- where the first slot has been tried
 
-abbrev judged : tie.After-try-slot → tie.Else2
-judged c = c.before.before
+abbrev judged : tie.After-try_slot-t → tie.Else-number_of-ne0-2
+judged c = c.before
 
-abbrev start₃ : tie.After-try-slot → tie.Start
+abbrev start₃ : tie.After-try_slot-t → tie.Start
 start₃ c = start₂ (judged c).before
 
-ok₃ : (c : tie.After-try-slot) → HeaderOk (start₃ c).args.image.now
+ok₃ : (c : tie.After-try_slot-t) → HeaderOk (start₃ c).args.image.now
 ok₃ c = header_ok (checked (judged c).before)
 
-match_is : (c : tie.After-try-slot) → matches (facts (start₃ c)) (recovered (start₃ c)) ≡ c.try-slot.result.opens
+match_is : (c : tie.After-try_slot-t) → matches (facts (start₃ c)) (recovered (start₃ c)) ≡ c.try_slot-t.result.opens
 match_is c =
     let s = start₃ c in
-    opens-on (facts s) s.args.from s.args.old.now _ _ (fit (judged c)).live refl refl ∙ sym c.try-slot.ensures.opens_is
+    opens-on (facts s) s.args.from s.args.old.now _ _ (fit (judged c)).live refl refl ∙ sym c.try_slot-t.ensures.opens_is
 
 -- the trial's cost
-trial-is : (c : tie.After-try-slot) → c.try-slot.result.values ≡ trial_cost (facts (start₃ c)) (start₃ c).args.from
+trial-is : (c : tie.After-try_slot-t) → c.try_slot-t.result.values ≡ trial_cost (facts (start₃ c)) (start₃ c).args.from
 trial-is c =
     let s = start₃ c in
-    tried-cost (facts s) s.args.from c.try-slot.result.values (fit (judged c)).live c.try-slot.ensures.values_are
+    tried-cost (facts s) s.args.from c.try_slot-t.result.values (fit (judged c)).live c.try_slot-t.ensures.values_are
 
 -- ---- where it opens
 
-abbrev tried : tie.Else3 → tie.After-try-slot
+abbrev tried : tie.Else-not-t → tie.After-try_slot-t
 tried c = c.before.before
 
-opens : (c : tie.Else3) → (tried c).try-slot.result.opens ≡ true
-opens c = not-false (tried c).try-slot.result.opens c.if3.false
+opens : (c : tie.Else-not-t) → (tried c).try_slot-t.result.opens ≡ true
+opens c = not-false (tried c).try_slot-t.result.opens c.if-not-t.false
 
-late-zero : (c : tie.Else3) → first (late (start₃ (tried c))) ≡ 0
+late-zero : (c : tie.Else-not-t) → first (late (start₃ (tried c))) ≡ 0
 unfolding late_checks
 late-zero c = first_pass (late (start₃ (tried c))) (match_is (tried c) ∙ opens c, tt)
 
 -- the front of the trial's key is the candidate
-abbrev trial : tie.After-key-bytes → tie.After-try-slot
-trial c = tried c.before.before
+abbrev trial : tie.After-key_bytes-l → tie.After-try_slot-t
+trial c = tried c.before
 
-candidate-length : (c : tie.After-key-bytes) → length (recovered (start₃ (trial c))) ≡ (facts (start₃ (trial c))).profile.key_bytes
-candidate-length c = (trial c).try-slot.ensures.length_is (opens c.before.before)
+candidate-length : (c : tie.After-key_bytes-l) → length (recovered (start₃ (trial c))) ≡ (facts (start₃ (trial c))).profile.key_bytes
+candidate-length c = (trial c).try_slot-t.ensures.length_is (opens c.before)
 
-front : (c : tie.After-key-bytes) → take c.key-bytes.result (trial c).try-slot.result.key ≡ recovered (start₃ (trial c))
+front : (c : tie.After-key_bytes-l) → take c.key_bytes-l.result (trial c).try_slot-t.result.key ≡ recovered (start₃ (trial c))
 front c =
     let k = recovered (start₃ (trial c)) in
-    let n = c.key-bytes in
-    ap (take n.result) ((trial c).try-slot.ensures.key_is (opens c.before.before))
+    let n = c.key_bytes-l in
+    ap (take n.result) ((trial c).try_slot-t.ensures.key_is (opens c.before))
     ∙ take_at k (zeros (64 - length k)) n.result (candidate-length c ∙ sym n.ensures.0)
 
 -- ---- needs
 
-returns : tie.Need-returns
+returns : tie.Need-returns-then-number_of-ne0
 returns c =
     let s = start₁ c.before in
     let m = s.args.image.now in
-    let h = c.before.before.header-check in
-    let z : number h.result ≢ 0 = λ q. c.if1.true (c.before.number_of_lem.ensures ∙ q) in
+    let h = c.header_check-h in
+    let z : number h.result ≢ 0 = λ q. c.if-number_of-ne0.true (c.number_of.ensures ∙ q) in
     lists_refused built m (called s) (number h.result) 0 z s.args.list.now (step-header built m (called s) (number h.result) z h.ensures)
 
-change-check-requires : tie.Need-change-check-requires
-change-check-requires c κs = header_ok c.before.before
+change-check-requires : tie.Need-change_check-r-requires
+change-check-requires c κs = header_ok c
 
-returns-2 : tie.Need-returns-2
+returns-2 : tie.Need-returns-then-number_of-ne0-2
 returns-2 c =
     let s = start₂ c.before in
     let m = s.args.image.now in
-    let r = c.before.before.change-check in
-    let z : number r.result ≢ 0 = λ q. c.if2.true (c.before.number-of2.ensures ∙ q) in
+    let r = c.change_check-r in
+    let z : number r.result ≢ 0 = λ q. c.if-number_of-ne0-2.true (c.number_of-2.ensures ∙ q) in
     lists_refused built m (called s) (number r.result) 0 z s.args.list.now
     (step-early built m (called s) (header_ok (checked c.before)) (number r.result) z (r.ensures s.args.salt.now))
 
-try-slot-requires : tie.Need-try-slot-requires
-try-slot-requires c κs = let e = c.before in (header_ok (checked e.before), (fit e).from_ok, (fit e).old_ok)
+try-slot-requires : tie.Need-try_slot-t-requires
+try-slot-requires c κs = let e = c in (header_ok (checked e.before), (fit e).from_ok, (fit e).old_ok)
 
-returns-3 : tie.Need-returns-3
+returns-3 : tie.Need-returns-then-not-t
 unfolding late_checks test_cost
 returns-3 c =
     let t = c.before.before in
     let s = start₃ t in
     let m = s.args.image.now in
-    lists_refused built m (called s) 17 t.try-slot.result.values (λ q. omega arith) s.args.list.now
+    lists_refused built m (called s) 17 t.try_slot-t.result.values (λ q. omega arith) s.args.list.now
     (step-late built m (called s) (ok₃ t) (early-zero (judged t)) 17 (λ q. omega arith)
-    (refused_by (late s) 0 tt (match_is t ∙ not-true t.try-slot.result.opens c.if3.true)) t.try-slot.result.values (trial-is t))
+    (refused_by (late s) 0 tt (match_is t ∙ not-true t.try_slot-t.result.opens c.if-not-t.true)) t.try_slot-t.result.values (trial-is t))
 
-key-bytes-requires : tie.Need-key-bytes-requires
-key-bytes-requires c κs = let t = tried c.before in (sound (start₃ t).args.image.now (ok₃ t)).named
+key-bytes-requires : tie.Need-key_bytes-l-requires
+key-bytes-requires c κs = let t = tried c in (sound (start₃ t).args.image.now (ok₃ t)).named
 
-array-share-prefix-key : tie.Need-array-share-prefix-key
+array-share-prefix-key : tie.Need-slice_bounds-key-end
 array-share-prefix-key c =
     let k = c.before.before in
-    let l : length (trial k).try-slot.result.key ≡ 64 = search rules in
-    omega (arith, l, k.key-bytes.ensures.1)
+    let l : length (trial k).try_slot-t.result.key ≡ 64 = search rules in
+    omega (arith, l, k.key_bytes-l.ensures.1)
 
-slice-aggregate-move-key : tie.Need-slice-aggregate-move-key
-slice-aggregate-move-key c = let k = c.before.before.before in k.key-bytes.ensures.0 ∙ sym (ap length (front k) ∙ candidate-length k)
+slice-aggregate-move-key : tie.Need-slice_bounds-move_key-end
+slice-aggregate-move-key c = let k = c.before.before.before in k.key_bytes-l.ensures.0 ∙ sym (ap length (front k) ∙ candidate-length k)
 
-move-key-requires : tie.Need-move-key-requires
+move-key-requires : tie.Need-move_key-made-requires
 unfolding key_ok
 move-key-requires c κs =
     let k = c.before.before.before.before in
@@ -178,54 +178,54 @@ move-key-requires c κs =
     (ok₃ t, g.from_ok, g.to_ok, eq-eqb _ _ (ap length (front k) ∙ candidate-length k), g.new_ok, g.count_passes, g.random_passes, g.filler_passes, g.list_passes)
 
 -- trial and work add up in 64 bits
-fits : (v : tie.After-move-key) → (trial v.before.before.before.before.before).try-slot.result.values + v.move-key.result < 2 ^ 64
-fits v = omega (arith, (trial v.before.before.before.before.before).try-slot.ensures.values_few, v.move-key.ensures.2)
+fits : (v : tie.After-move_key-made) → (trial v.before.before.before.before.before).try_slot-t.result.values + v.move_key-made.result < 2 ^ 64
+fits v = omega (arith, (trial v.before.before.before.before.before).try_slot-t.ensures.values_few, v.move_key-made.ensures.2)
 
-returns-4 : tie.Need-returns-4
+returns-4 : tie.Need-returns
 unfolding answer done writes list_of test_cost work_cost
 returns-4 c =
-    let v = c.before.before.before.before.before in
-    let k = v.before.before.before.before.before in
+    let v = c in
+    let k = v.before.before.before.before.before.before.before.before.before.before in
     let t = trial k in
     let e = judged t in
     let s = start₃ t in
     let a = s.args in
     let m = a.image.now in
     let f = facts s in
-    let z = sym e.before.number-of2.ensures ∙ e.if2.left in
+    let z = sym e.number_of-2.ensures ∙ e.if-number_of-ne0-2.false in
     lists_accepted built m (called s) _ _
-    (step-accepted built m (called s) (ok₃ t) (early-zero e) (late-zero k.before.before) (t.try-slot.result.values + v.move-key.result)
-    (ap₂ ◌+◌ (trial-is t) v.move-key.ensures.1))
-    (number e.before.before.change-check.result) _ a.list.now _ z z
-    (v.move-key.ensures.0.image_is
+    (step-accepted built m (called s) (ok₃ t) (early-zero e) (late-zero k.before) (t.try_slot-t.result.values + v.move_key-made.result)
+    (ap₂ ◌+◌ (trial-is t) v.move_key-made.ensures.1))
+    (number e.change_check-r.result) _ a.list.now _ z z
+    (v.move_key-made.ensures.0.image_is
     ∙ ap (λ (y : List ℕ). written (enable_writes f a.to y (input s) ++ disable_writes f a.from a.filler.now) m) (front k))
-    (v.move-key.ensures.0.list_is
+    (v.move_key-made.ensures.0.list_is
     ∙ ap (λ (y : List ℕ). encoded (slot_list f a.to (enabled_image f a.to y (input s) m)
     ++ slot_list f a.from (disabled_image f a.from a.filler.now (enabled_image f a.to y (input s) m)))) (front k))
 
-pub change-spec : {M : Type 1} → statement M
-change-spec =
+pub change_spec : {M : Type 1} → statement M
+change_spec =
     tie.close
     (tie.spec
-    (λ header-check-requires κs. search rules)
-    (λ number-of-requires κs. search rules)
-    (λ same_length. search rules)
+    (λ c κs. search rules)
+    (λ c κs. search rules)
+    (λ c. search rules)
     returns
     change-check-requires
-    (λ number-of-requires-2 κs. search rules)
-    (λ same-length-2. search rules)
-    (λ same-length-3. search rules)
+    (λ c κs. search rules)
+    (λ c. search rules)
+    (λ c. search rules)
     returns-2
     try-slot-requires
-    (λ same-length-4. search rules)
-    (λ same-length-5. search rules)
+    (λ c. search rules)
+    (λ c. search rules)
     returns-3
     key-bytes-requires
-    (λ cast-l. search rules)
+    (λ c. search rules)
     array-share-prefix-key
     slice-aggregate-move-key
     move-key-requires
     (λ c. omega (arith, fits c.before.before.before.before.before))
-    (λ same-length-6. search rules)
-    (λ same-length-7. search rules)
+    (λ c. search rules)
+    (λ c. search rules)
     returns-4)

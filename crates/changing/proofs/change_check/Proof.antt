@@ -23,109 +23,109 @@ checks s salt =
 
 -- ---- places: the call, behind each test; states and passphrases are judged before the second
 
-abbrev start₁ : tie.Else1 → tie.Start
+abbrev start₁ : tie.Else-not-numbers_ok → tie.Start
 start₁ c = c.before.before.before.before.before.before.before.before
 
-abbrev start₂ : tie.Else2 → tie.Start
+abbrev start₂ : tie.Else-not-states → tie.Start
 start₂ c = start₁ c.before.before.before
 
-abbrev start₃ : tie.Else3 → tie.Start
+abbrev start₃ : tie.Else-not-passphrases → tie.Start
 start₃ c = start₂ c.before
 
-abbrev start₄ : tie.Else4 → tie.Start
+abbrev start₄ : tie.Else-not-count_ok → tie.Start
 start₄ c = start₃ c.before.before
 
-abbrev start₅ : tie.Else5 → tie.Start
+abbrev start₅ : tie.Else-not-lengths_ok → tie.Start
 start₅ c = start₄ c.before.before
 
-abbrev start₆ : tie.Else6 → tie.Start
+abbrev start₆ : tie.Else-not-lists_ok → tie.Start
 start₆ c = start₅ c.before.before
 
 -- ---- what has passed at each
 
-passed₁ : (c : tie.Else1) (salt : List ℕ) → Pass (take 1 (checks (start₁ c) salt))
+passed₁ : (c : tie.Else-not-numbers_ok) (salt : List ℕ) → Pass (take 1 (checks (start₁ c) salt))
 unfolding early_checks
-passed₁ c salt = (holds c.before.numbers-ok.ensures c.if1.false, tt)
+passed₁ c salt = (holds c.numbers_ok.ensures c.if-not-numbers_ok.false, tt)
 
-numbers : (c : tie.Else1) → (slot_number_ok (start₁ c).args.from ≡ true) × (slot_number_ok (start₁ c).args.to ≡ true)
+numbers : (c : tie.Else-not-numbers_ok) → (slot_number_ok (start₁ c).args.from ≡ true) × (slot_number_ok (start₁ c).args.to ≡ true)
 unfolding early_checks
 numbers c = let a = (start₁ c).args in and_split (slot_number_ok a.from) (slot_number_ok a.to) (passed₁ c []).0
 
-passed₂ : (c : tie.Else2) (salt : List ℕ) → Pass (take 2 (checks (start₂ c) salt))
+passed₂ : (c : tie.Else-not-states) (salt : List ℕ) → Pass (take 2 (checks (start₂ c) salt))
 unfolding early_checks
-passed₂ c salt = pass_next (checks (start₂ c) salt) 1 (passed₁ c.before.before.before salt) (holds c.before.before.states-ok.ensures c.if2.false)
+passed₂ c salt = pass_next (checks (start₂ c) salt) 1 (passed₁ c.before.before.before salt) (holds c.states_ok-states.ensures c.if-not-states.false)
 
-passed₃ : (c : tie.Else3) (salt : List ℕ) → Pass (take 3 (checks (start₃ c) salt))
+passed₃ : (c : tie.Else-not-passphrases) (salt : List ℕ) → Pass (take 3 (checks (start₃ c) salt))
 unfolding early_checks
-passed₃ c salt = pass_next (checks (start₃ c) salt) 2 (passed₂ c.before salt) (holds c.before.before.passphrases-ok.ensures c.if3.false)
+passed₃ c salt = pass_next (checks (start₃ c) salt) 2 (passed₂ c.before salt) (holds c.passphrases_ok-passphrases.ensures c.if-not-passphrases.false)
 
-passed₄ : (c : tie.Else4) (salt : List ℕ) → Pass (take 4 (checks (start₄ c) salt))
+passed₄ : (c : tie.Else-not-count_ok) (salt : List ℕ) → Pass (take 4 (checks (start₄ c) salt))
 unfolding early_checks
-passed₄ c salt = pass_next (checks (start₄ c) salt) 3 (passed₃ c.before.before salt) (holds c.before.count_passes.ensures c.if4.false)
+passed₄ c salt = pass_next (checks (start₄ c) salt) 3 (passed₃ c.before.before salt) (holds c.count_ok.ensures c.if-not-count_ok.false)
 
-passed₅ : (c : tie.Else5) (salt : List ℕ) → Pass (take 5 (checks (start₅ c) salt))
+passed₅ : (c : tie.Else-not-lengths_ok) (salt : List ℕ) → Pass (take 5 (checks (start₅ c) salt))
 unfolding early_checks
-passed₅ c salt = pass_next (checks (start₅ c) salt) 4 (passed₄ c.before.before salt) (holds c.before.lengths-ok.ensures c.if5.false)
+passed₅ c salt = pass_next (checks (start₅ c) salt) 4 (passed₄ c.before.before salt) (holds c.lengths_ok.ensures c.if-not-lengths_ok.false)
 
-passed₆ : (c : tie.Else6) (salt : List ℕ) → Pass (checks (start₆ c) salt)
+passed₆ : (c : tie.Else-not-lists_ok) (salt : List ℕ) → Pass (checks (start₆ c) salt)
 unfolding early_checks
-passed₆ c salt = pass_next (checks (start₆ c) salt) 5 (passed₅ c.before.before salt) (holds c.before.lists-ok.ensures c.if6.false)
+passed₆ c salt = pass_next (checks (start₆ c) salt) 5 (passed₅ c.before.before salt) (holds c.lists_ok.ensures c.if-not-lists_ok.false)
 
 -- ---- needs
 
-returns : tie.Need-returns
+returns : tie.Need-returns-then-not-numbers_ok
 unfolding early_checks
-returns c salt = refused_by _ 0 tt (fails c.before.numbers-ok.ensures c.if1.true)
+returns c salt = refused_by _ 0 tt (fails c.numbers_ok.ensures c.if-not-numbers_ok.true)
 
-states-ok-requires : tie.Need-states-ok-requires
+states-ok-requires : tie.Need-states_ok-states-requires
 states-ok-requires c κs = let n = numbers c in ((start₁ c).requires, n.0, n.1)
 
-returns-2 : tie.Need-returns-2
+returns-2 : tie.Need-returns-then-not-states
 unfolding early_checks
-returns-2 c salt = refused_by _ 1 (passed₁ c.before.before.before salt) (fails c.before.before.states-ok.ensures c.if2.true)
+returns-2 c salt = refused_by _ 1 (passed₁ c.before.before.before salt) (fails c.states_ok-states.ensures c.if-not-states.true)
 
-returns-3 : tie.Need-returns-3
+returns-3 : tie.Need-returns-then-not-passphrases
 unfolding early_checks
-returns-3 c salt = refused_by _ 2 (passed₂ c.before salt) (fails c.before.before.passphrases-ok.ensures c.if3.true)
+returns-3 c salt = refused_by _ 2 (passed₂ c.before salt) (fails c.passphrases_ok-passphrases.ensures c.if-not-passphrases.true)
 
-returns-4 : tie.Need-returns-4
+returns-4 : tie.Need-returns-then-not-count_ok
 unfolding early_checks
-returns-4 c salt = refused_by _ 3 (passed₃ c.before.before salt) (fails c.before.count_passes.ensures c.if4.true)
+returns-4 c salt = refused_by _ 3 (passed₃ c.before.before salt) (fails c.count_ok.ensures c.if-not-count_ok.true)
 
-lengths-ok-requires : tie.Need-lengths-ok-requires
+lengths-ok-requires : tie.Need-lengths_ok-requires
 lengths-ok-requires c κs =
     let first = c.before.before.before.before.before.before in
     let n = numbers first in
     ((start₁ first).requires, n.0, n.1)
 
-returns-5 : tie.Need-returns-5
+returns-5 : tie.Need-returns-then-not-lengths_ok
 unfolding early_checks
-returns-5 c salt = refused_by _ 4 (passed₄ c.before.before salt) (fails c.before.lengths-ok.ensures c.if5.true)
+returns-5 c salt = refused_by _ 4 (passed₄ c.before.before salt) (fails c.lengths_ok.ensures c.if-not-lengths_ok.true)
 
-lists-ok-requires : tie.Need-lists-ok-requires
+lists-ok-requires : tie.Need-lists_ok-requires
 lists-ok-requires c κs =
     let first = c.before.before.before.before.before.before.before.before in
     let n = numbers first in
     ((start₁ first).requires, n.0, n.1)
 
-returns-6 : tie.Need-returns-6
+returns-6 : tie.Need-returns-then-not-lists_ok
 unfolding early_checks
-returns-6 c salt = refused_by _ 5 (passed₅ c.before.before salt) (fails c.before.lists-ok.ensures c.if6.true)
+returns-6 c salt = refused_by _ 5 (passed₅ c.before.before salt) (fails c.lists_ok.ensures c.if-not-lists_ok.true)
 
-returns-7 : tie.Need-returns-7
+returns-7 : tie.Need-returns
 returns-7 c salt = all_pass (checks (start₆ c) salt) (passed₆ c salt)
 
-pub change-check-spec : {M : Type 1} → statement M
-change-check-spec =
+pub change_check_spec : {M : Type 1} → statement M
+change_check_spec =
     tie.close
     (tie.spec
-    (λ numbers-ok-requires κs. search rules)
+    (λ c κs. search rules)
     returns
     states-ok-requires
-    (λ passphrases-ok-requires κs. search rules)
+    (λ c κs. search rules)
     returns-2
     returns-3
-    (λ count-ok-requires κs. search rules)
+    (λ c κs. search rules)
     returns-4
     lengths-ok-requires
     returns-5

@@ -7,7 +7,7 @@ use Rattle.header.specs.Records.{facts_in}
 use Rattle.changing.proofs.lengths_ok.Statement.{statement}
 use Rattle.changing.proofs.lengths_ok.Tie as tie
 
-abbrev start : tie.After-random-ok → tie.Start
+abbrev start : tie.After-random_ok → tie.Start
 start c = c.before.before.before.before
 
 abbrev random-fits : tie.Start → Bool
@@ -16,17 +16,23 @@ random-fits s = random_ok (facts_in s.args.image.now) s.args.to s.args.random.no
 abbrev filler-fits : tie.Start → Bool
 filler-fits s = filler_ok (facts_in s.args.image.now) s.args.from s.args.filler.now
 
-returns : tie.Need-returns
+returns : tie.Need-returns-then-not-random_ok
 returns c =
-    let t = c.before.random_passes in
+    let t = c.random_ok in
     let s = start c.before in
-    and_no (random-fits s) (filler-fits s) (fails t.ensures c.if1.true)
+    and_no (random-fits s) (filler-fits s) (fails t.ensures c.if-not-random_ok.true)
 
-returns-2 : tie.Need-returns-2
+returns-2 : tie.Need-returns
 returns-2 c =
-    let t = c.before.before.random_passes in
+    let t = c.random_ok in
     let s = start c.before.before in
-    and_yes (random-fits s) (filler-fits s) c.filler_passes.result (holds t.ensures c.before.if1.false) c.filler_passes.ensures
+    and_yes (random-fits s) (filler-fits s) c.filler_ok.result (holds t.ensures c.if-not-random_ok.false) c.filler_ok.ensures
 
-pub lengths-ok-spec : {M : Type 1} → statement M
-lengths-ok-spec = tie.close (tie.spec (λ random-ok-requires κs. search rules) returns (λ filler-ok-requires κs. search rules) returns-2)
+pub lengths_ok_spec : {M : Type 1} → statement M
+lengths_ok_spec =
+    tie.close
+    (tie.spec
+    (λ c κs. search rules)
+    returns
+    (λ c κs. search rules)
+    returns-2)

@@ -14,14 +14,18 @@ use Rattle.changing.proofs.lists_ok.Tie as tie
 returns : tie.Need-returns
 unfolding list_ok
 returns c =
-    let one = c.before in
-    let a = one.before.before.before.args in
+    let one = c in
+    let a = one.args in
     let f = facts_in a.image.now in
-    let e : one.list-bytes.result + c.list-bytes2.result ≡ (slot_count f a.to + slot_count f a.from) * entry_bytes
-    = omega (arith, one.list-bytes.ensures.0, c.list-bytes2.ensures.0) in
+    let e : one.list_bytes.result + c.list_bytes-2.result ≡ (slot_count f a.to + slot_count f a.from) * entry_bytes
+    = omega (arith, one.list_bytes.ensures.0, c.list_bytes-2.ensures.0) in
     ap (λ (n : ℕ). eqb (length a.list.now) n) e
 
-pub lists-ok-spec : {M : Type 1} → statement M
-lists-ok-spec =
+pub lists_ok_spec : {M : Type 1} → statement M
+lists_ok_spec =
     tie.close
-    (tie.spec (λ list-bytes-requires κs. search rules) (λ list-bytes-requires-2 κs. search rules) (λ add-result. search rules) returns)
+    (tie.spec
+    (λ c κs. search rules)
+    (λ c κs. search rules)
+    (λ c. search rules)
+    returns)

@@ -16,116 +16,116 @@ use Rattle.changing.proofs.move_key.Tie as tie
 
 -- ---- places: where both areas are known, where the second slot is enabled, and where the first is disabled
 
-abbrev known : tie.After-list-bytes → tie.After-area-of2
-known c = c.before.before
+abbrev known : tie.After-list_bytes-half → tie.After-area_of-from_area
+known c = c.before
 
-abbrev measured : tie.After-enable-slot → tie.After-list-bytes
+abbrev measured : tie.After-enable_slot-made → tie.After-list_bytes-half
 measured c = c.before.before
 
-abbrev start : tie.After-area-of2 → tie.Start
-start c = c.before.before.before.before.before.before.before.before.before.before
+abbrev start : tie.After-area_of-from_area → tie.Start
+start c = c.before.before.before.before.before.before.before.before
 
-abbrev start₁ : tie.After-enable-slot → tie.Start
+abbrev start₁ : tie.After-enable_slot-made → tie.Start
 start₁ c = start (known (measured c))
 
-abbrev listed₁ : tie.After-disable-slot → tie.After-put-list
+abbrev listed₁ : tie.After-disable_slot → tie.After-put_list
 listed₁ c = c.before.before.before.before
 
-abbrev enabled : tie.After-put-list → tie.After-enable-slot
-enabled c = c.before.before.before.before.before
+abbrev enabled : tie.After-put_list → tie.After-enable_slot-made
+enabled c = c.before.before.before.before
 
 abbrev input : tie.Start → SlotInput
 input s = let a = s.args in slot_input a.new.now a.salt.now a.count a.random.now
 
 -- the image is as long as it was, and so is the list
-kept₁ : (c : tie.After-enable-slot) → length c.enable-slot.new.0 ≡ length (start₁ c).args.image.now
+kept₁ : (c : tie.After-enable_slot-made) → length c.enable_slot-made.new.image ≡ length (start₁ c).args.image.now
 kept₁ c = search rules
 
-kept₂ : (c : tie.After-disable-slot) → length c.disable-slot.new.0 ≡ length (start₁ (enabled (listed₁ c))).args.image.now
+kept₂ : (c : tie.After-disable_slot) → length c.disable_slot.new.image ≡ length (start₁ (enabled (listed₁ c))).args.image.now
 kept₂ c = search rules
 
-kept-list : (c : tie.After-put-list) → length c.put-list.new.0 ≡ length (start₁ (enabled c)).args.list.now
+kept-list : (c : tie.After-put_list) → length c.put_list.new.list ≡ length (start₁ (enabled c)).args.list.now
 kept-list c = search rules
 
 -- ---- needs
 
-put-list-requires : tie.Need-put-list-requires
+put-list-requires : tie.Need-put_list-requires
 put-list-requires c κs =
-    let e = c.before.before.before.before in
+    let e = c.before.before.before in
     let s = start₁ e in
     let a = s.args in
-    let q = s.pre in
+    let q = s.requires in
     let k = known (measured e) in
-    let to-area = k.before.before.area_of in
+    let to-area = k.area_of-to_area in
     let l = kept₁ e in (
-      area-within a.image.now q.0 a.to q.2 to-area.result to-area.ensures.0 e.enable-slot.new.0 l,
-      room₁ a.image.now q.0 a.from a.to q.1 q.2 to-area.result k.area-of2.result to-area.ensures.0 k.area-of2.ensures.0
-          e.enable-slot.new.0 e.enable-slot.new.0 l l a.list.now q.8,
+      area-within a.image.now q.0 a.to q.2 to-area.result to-area.ensures.0 e.enable_slot-made.new.image l,
+      room₁ a.image.now q.0 a.from a.to q.1 q.2 to-area.result k.area_of-from_area.result to-area.ensures.0 k.area_of-from_area.ensures.0
+          e.enable_slot-made.new.image e.enable_slot-made.new.image l l a.list.now q.8,
     )
 
-disable-slot-requires : tie.Need-disable-slot-requires
+disable-slot-requires : tie.Need-disable_slot-requires
 disable-slot-requires c κs =
     let p = enabled c.before.before.before in
     let s = start₁ p in
     let a = s.args in
-    let q = s.pre in
-    let e = p.enable-slot in
+    let q = s.requires in
+    let e = p.enable_slot-made in
     let l = kept₁ p in
-    let r = filler-fits a.image.now q.0 a.from a.to q.1 q.2 a.key.now (input s) e.ensures.1 a.filler.now e.last.0 e.ensures.0 q.7 in
+    let r = filler-fits a.image.now q.0 a.from a.to q.1 q.2 a.key.now (input s) e.ensures.1 a.filler.now e.new.image e.ensures.0 q.7 in
     (omega (arith, l, (sound a.image.now q.0).size), q.1, omega (arith, l, r))
 
-put-list_requires_2 : tie.Need-put-list-requires-2
+put-list_requires_2 : tie.Need-put_list-requires-2
 put-list_requires_2 c κs =
-    let d = c.before.before.before.before in
+    let d = c.before.before.before in
     let w = listed₁ d in
     let e = enabled w in
     let s = start₁ e in
     let a = s.args in
-    let q = s.pre in
+    let q = s.requires in
     let k = known (measured e) in
-    let to-area = k.before.before.area_of in (
-      area-within a.image.now q.0 a.from q.1 k.area-of2.result k.area-of2.ensures.0 d.disable-slot.new.0 (kept₂ d),
-      room₂ a.image.now q.0 a.from a.to q.1 q.2 to-area.result k.area-of2.result to-area.ensures.0 k.area-of2.ensures.0
-          e.enable-slot.last.0 d.disable-slot.new.0 (kept₁ e) (kept₂ d) a.list.now q.8
-          (measured e).list-bytes.result w.put-list.last.0 (measured e).list-bytes.ensures.0 (kept-list w),
+    let to-area = k.area_of-to_area in (
+      area-within a.image.now q.0 a.from q.1 k.area_of-from_area.result k.area_of-from_area.ensures.0 d.disable_slot.new.image (kept₂ d),
+      room₂ a.image.now q.0 a.from a.to q.1 q.2 to-area.result k.area_of-from_area.result to-area.ensures.0 k.area_of-from_area.ensures.0
+          e.enable_slot-made.new.image d.disable_slot.new.image (kept₁ e) (kept₂ d) a.list.now q.8
+          (measured e).list_bytes-half.result w.put_list.new.list (measured e).list_bytes-half.ensures.0 (kept-list w),
     )
 
 returns : tie.Need-returns
 returns c =
-    let v = c.before.before in
-    let d = v.before.before.before.before.before in
+    let v = c in
+    let d = v.before.before.before.before.before.before in
     let w = listed₁ d in
     let p = enabled w in
     let s = start₁ p in
     let a = s.args in
     let m = a.image.now in
-    let q = s.pre in
+    let q = s.requires in
     let k = known (measured p) in
-    let to-area = k.before.before.area_of in
-    let e = p.enable-slot in
-    let on = moved_on m q.0 a.from a.to q.1 q.2 a.key.now (input s) e.ensures.1 a.filler.now e.last.0 e.ensures.0 _ d.disable-slot.ensures in (
+    let to-area = k.area_of-to_area in
+    let e = p.enable_slot-made in
+    let on = moved_on m q.0 a.from a.to q.1 q.2 a.key.now (input s) e.ensures.1 a.filler.now e.new.image e.ensures.0 _ d.disable_slot.ensures in (
       record {
-        image_is = moved m q.0 a.from a.to q.1 q.2 a.key.now (input s) e.ensures.1 a.filler.now e.last.0 e.ensures.0 _ d.disable-slot.ensures;
-        list_is = both-filled m q.0 a.from a.to q.1 q.2 to-area.result k.area-of2.result to-area.ensures.0 k.area-of2.ensures.0
-            e.last.0 d.disable-slot.new.0 (kept₁ p) (kept₂ d) a.list.now q.8
-            (measured p).list-bytes.result _ _ (measured p).list-bytes.ensures.0 w.put-list.ensures v.put-list2.ensures
+        image_is = moved m q.0 a.from a.to q.1 q.2 a.key.now (input s) e.ensures.1 a.filler.now e.new.image e.ensures.0 _ d.disable_slot.ensures;
+        list_is = both-filled m q.0 a.from a.to q.1 q.2 to-area.result k.area_of-from_area.result to-area.ensures.0 k.area_of-from_area.ensures.0
+            e.new.image d.disable_slot.new.image (kept₁ p) (kept₂ d) a.list.now q.8
+            (measured p).list_bytes-half.result _ _ (measured p).list_bytes-half.ensures.0 w.put_list.ensures v.put_list-2.ensures
             ∙ ap₂ (λ (x y : List ℕ). encoded (slot_list (facts_in m) a.to x ++ slot_list (facts_in m) a.from y)) e.ensures.0 on;
       },
       e.ensures.2,
       e.ensures.3,
     )
 
-pub move-key-spec : {M : Type 1} → statement M
-move-key-spec =
+pub move_key_spec : {M : Type 1} → statement M
+move_key_spec =
     tie.close
     (tie.spec
-    (λ area-of-requires κs. search rules)
-    (λ area-of-requires-2 κs. search rules)
-    (λ list-bytes-requires κs. search rules)
-    (λ enable-slot-requires κs. search rules)
+    (λ c κs. search rules)
+    (λ c κs. search rules)
+    (λ c κs. search rules)
+    (λ c κs. search rules)
     put-list-requires
     disable-slot-requires
     put-list_requires_2
-    (λ same_length. search rules)
-    (λ same-length-2. search rules)
+    (λ c. search rules)
+    (λ c. search rules)
     returns)

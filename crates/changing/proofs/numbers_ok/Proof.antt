@@ -5,19 +5,24 @@ use Rattle.rules.specs.Calls.{slot_number_ok}
 use Rattle.changing.proofs.numbers_ok.Statement.{statement}
 use Rattle.changing.proofs.numbers_ok.Tie as tie
 
-returns : tie.Need-returns
+returns : tie.Need-returns-then-not-slot_number_ok
 returns c =
-    let t = c.before.slot-number-ok in
-    let a = c.before.before.args in
-    and_no (slot_number_ok a.from) (slot_number_ok a.to) (fails t.ensures c.if1.true)
+    let t = c.slot_number_ok in
+    let a = c.args in
+    and_no (slot_number_ok a.from) (slot_number_ok a.to) (fails t.ensures c.if-not-slot_number_ok.true)
 
-returns-2 : tie.Need-returns-2
+returns-2 : tie.Need-returns
 returns-2 c =
-    let t = c.before.before.slot-number-ok in
-    let u = c.slot-number-ok2 in
-    let a = c.before.before.before.args in
-    and_yes (slot_number_ok a.from) (slot_number_ok a.to) u.result (holds t.ensures c.before.if1.false) u.ensures
+    let t = c.slot_number_ok in
+    let u = c.slot_number_ok-2 in
+    let a = c.args in
+    and_yes (slot_number_ok a.from) (slot_number_ok a.to) u.result (holds t.ensures c.if-not-slot_number_ok.false) u.ensures
 
-pub numbers-ok-spec : {M : Type 1} → statement M
-numbers-ok-spec =
-    tie.close (tie.spec (λ slot-number-ok-requires κs. search rules) returns (λ slot-number-ok-requires-2 κs. search rules) returns-2)
+pub numbers_ok_spec : {M : Type 1} → statement M
+numbers_ok_spec =
+    tie.close
+    (tie.spec
+    (λ c κs. search rules)
+    returns
+    (λ c κs. search rules)
+    returns-2)

@@ -5,22 +5,27 @@ use Rattle.rules.specs.Calls.{passphrase_ok}
 use Rattle.changing.proofs.passphrases_ok.Statement.{statement}
 use Rattle.changing.proofs.passphrases_ok.Tie as tie
 
-abbrev start : tie.After-passphrase-ok → tie.Start
+abbrev start : tie.After-passphrase_ok → tie.Start
 start c = c.before.before.before
 
-returns : tie.Need-returns
+returns : tie.Need-returns-then-not-passphrase_ok
 returns c =
-    let t = c.before.passphrase_passes in
+    let t = c.passphrase_ok in
     let a = (start c.before).args in
-    and_no (passphrase_ok a.old.now) (passphrase_ok a.new.now) (fails t.ensures c.if1.true)
+    and_no (passphrase_ok a.old.now) (passphrase_ok a.new.now) (fails t.ensures c.if-not-passphrase_ok.true)
 
-returns-2 : tie.Need-returns-2
+returns-2 : tie.Need-returns
 returns-2 c =
-    let t = c.before.before.passphrase_passes in
-    let u = c.passphrase-ok2 in
+    let t = c.passphrase_ok in
+    let u = c.passphrase_ok-2 in
     let a = (start c.before.before).args in
-    and_yes (passphrase_ok a.old.now) (passphrase_ok a.new.now) u.result (holds t.ensures c.before.if1.false) u.ensures
+    and_yes (passphrase_ok a.old.now) (passphrase_ok a.new.now) u.result (holds t.ensures c.if-not-passphrase_ok.false) u.ensures
 
-pub passphrases-ok-spec : {M : Type 1} → statement M
-passphrases-ok-spec =
-    tie.close (tie.spec (λ passphrase-ok-requires κs. search rules) returns (λ passphrase-ok-requires-2 κs. search rules) returns-2)
+pub passphrases_ok_spec : {M : Type 1} → statement M
+passphrases_ok_spec =
+    tie.close
+    (tie.spec
+    (λ c κs. search rules)
+    returns
+    (λ c κs. search rules)
+    returns-2)

@@ -9,26 +9,31 @@ use Rattle.header.specs.Records.{facts_in}
 use Rattle.changing.proofs.states_ok.Statement.{statement}
 use Rattle.changing.proofs.states_ok.Tie as tie
 
-abbrev start : tie.After-slot-enabled → tie.Start
+abbrev start : tie.After-slot_enabled → tie.Start
 start c = c.before.before
 
 -- slot k of the image is enabled
 abbrev on : tie.Start → ℕ → Bool
 on s k = is_enabled (slot_of (facts_in s.args.image.now) k)
 
-returns : tie.Need-returns
+returns : tie.Need-returns-then-not-slot_enabled
 returns c =
-    let t = c.before.slot-enabled in
+    let t = c.slot_enabled in
     let s = start c.before in
-    and_no (on s s.args.from) (not (on s s.args.to)) (fails t.ensures c.if1.true)
+    and_no (on s s.args.from) (not (on s s.args.to)) (fails t.ensures c.if-not-slot_enabled.true)
 
-returns-2 : tie.Need-returns-2
+returns-2 : tie.Need-returns
 returns-2 c =
-    let t = c.before.before.slot-enabled in
-    let u = c.slot-enabled2 in
+    let t = c.slot_enabled in
+    let u = c.slot_enabled-2 in
     let s = start c.before.before in
-    and_yes (on s s.args.from) (not (on s s.args.to)) (not u.result) (holds t.ensures c.before.if1.false) (ap not u.ensures)
+    and_yes (on s s.args.from) (not (on s s.args.to)) (not u.result) (holds t.ensures c.if-not-slot_enabled.false) (ap not u.ensures)
 
-pub states-ok-spec : {M : Type 1} → statement M
-states-ok-spec =
-    tie.close (tie.spec (λ slot-enabled-requires κs. search rules) returns (λ slot-enabled-requires-2 κs. search rules) returns-2)
+pub states_ok_spec : {M : Type 1} → statement M
+states_ok_spec =
+    tie.close
+    (tie.spec
+    (λ c κs. search rules)
+    returns
+    (λ c κs. search rules)
+    returns-2)

@@ -7,11 +7,15 @@ use Rattle.payload.proofs.PayloadLaws.{holds_units_lem}
 use Rattle.payload.proofs.holds_units.Statement.{statement}
 use Rattle.payload.proofs.holds_units.Tie as tie
 
-returns : tie.Need-returns
-returns c = let a = c.before.args in sym (ne_eqb a.len (512 * a.units.0) (λ (q : a.len ≡ 512 * a.units.0). c.if1.true (omega arith)))
+returns : tie.Need-returns-then-len-ne0
+returns c = let a = c.args in sym (ne_eqb a.len (512 * a.units.0) (λ (q : a.len ≡ 512 * a.units.0). c.if-len-ne0.true (omega arith)))
 
-returns-2 : tie.Need-returns-2
-returns-2 c = let a = c.before.before.args in holds_units_lem a.len a.units.0 c.before.if1.false
+returns-2 : tie.Need-returns
+returns-2 c = let a = c.args in holds_units_lem a.len a.units.0 c.if-len-ne0.false
 
-pub holds-units-spec : {M : Type 1} → statement M
-holds-units-spec = tie.close (tie.spec returns returns-2)
+pub holds_units_spec : {M : Type 1} → statement M
+holds_units_spec =
+    tie.close
+    (tie.spec
+    returns
+    returns-2)

@@ -7,11 +7,15 @@ use Rattle.payload.proofs.PayloadLaws.{in_payload_lem}
 use Rattle.payload.proofs.in_payload.Statement.{statement}
 use Rattle.payload.proofs.in_payload.Tie as tie
 
-returns : tie.Need-returns
-returns c = let a = c.before.before.before.args in sym (lt-leb (a.from.0 + a.units.0) a.total.0 (omega arith))
+returns : tie.Need-returns-then-total-units
+returns c = let a = c.args in sym (lt-leb (a.from.0 + a.units.0) a.total.0 (omega arith))
 
-returns-2 : tie.Need-returns-2
-returns-2 c = let a = c.before.before.before.before.before.before.args in in_payload_lem a.total.0 a.from.0 a.units.0 (omega arith)
+returns-2 : tie.Need-returns
+returns-2 c = let a = c.args in in_payload_lem a.total.0 a.from.0 a.units.0 (omega arith)
 
-pub in-payload-spec : {M : Type 1} → statement M
-in-payload-spec = tie.close (tie.spec returns returns-2)
+pub in_payload_spec : {M : Type 1} → statement M
+in_payload_spec =
+    tie.close
+    (tie.spec
+    returns
+    returns-2)

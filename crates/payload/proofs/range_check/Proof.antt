@@ -18,56 +18,56 @@ use Rattle.payload.proofs.range_check.Tie as tie
 abbrev list : tie.Start → List Check
 list s = range_checks (facts_in s.args.image.now) s.args.key.now s.args.from.0 s.args.units.0 s.args.buffer.now
 
-abbrev start₁ : tie.Else1 → tie.Start
+abbrev start₁ : tie.Else-not-key_ok → tie.Start
 start₁ c = c.before.before.before.before.before
 
-abbrev start₂ : tie.Else2 → tie.Start
+abbrev start₂ : tie.Else-not-inside → tie.Start
 start₂ c = start₁ c.before.before.before.before
 
 -- the units are held to the payload's own
-range-is : (c : tie.After-in-payload)
-    → let a = (start₁ c.before.before).args in c.in_payload_lem.result ≡ leb (a.from.0 + a.units.0) (length (facts_in a.image.now).payload / 512)
+range-is : (c : tie.After-in_payload-inside)
+    → let a = (start₁ c.before.before).args in c.in_payload-inside.result ≡ leb (a.from.0 + a.units.0) (length (facts_in a.image.now).payload / 512)
 range-is c =
     let a = (start₁ c.before.before).args in
-    c.in_payload_lem.ensures ∙ ap (leb (a.from.0 + a.units.0)) c.before.payload-units.ensures
+    c.in_payload-inside.ensures ∙ ap (leb (a.from.0 + a.units.0)) c.payload_units.ensures
 
-passed₁ : (c : tie.Else1) → Pass (take 1 (list (start₁ c)))
+passed₁ : (c : tie.Else-not-key_ok) → Pass (take 1 (list (start₁ c)))
 unfolding range_checks
-passed₁ c = (holds c.before.key-ok.ensures c.if1.false, tt)
+passed₁ c = (holds c.key_ok.ensures c.if-not-key_ok.false, tt)
 
-passed₂ : (c : tie.Else2) → Pass (take 2 (list (start₂ c)))
+passed₂ : (c : tie.Else-not-inside) → Pass (take 2 (list (start₂ c)))
 unfolding range_checks
-passed₂ c = pass_next (list (start₂ c)) 1 (passed₁ c.before.before.before.before) (holds (range-is c.before.before) c.if2.false)
+passed₂ c = pass_next (list (start₂ c)) 1 (passed₁ c.before.before.before.before) (holds (range-is c.before.before) c.if-not-inside.false)
 
 -- ---- needs
 
-returns : tie.Need-returns
+returns : tie.Need-returns-then-not-key_ok
 unfolding range_checks
-returns c = refused_by _ 0 tt (fails c.before.key-ok.ensures c.if1.true)
+returns c = refused_by _ 0 tt (fails c.key_ok.ensures c.if-not-key_ok.true)
 
-returns-2 : tie.Need-returns-2
+returns-2 : tie.Need-returns-then-not-inside
 unfolding range_checks
-returns-2 c = refused_by _ 1 (passed₁ c.before.before.before.before) (fails (range-is c.before.before) c.if2.true)
+returns-2 c = refused_by _ 1 (passed₁ c.before.before.before.before) (fails (range-is c.before.before) c.if-not-inside.true)
 
-returns-3 : tie.Need-returns-3
+returns-3 : tie.Need-returns-then-not-whole
 unfolding range_checks
-returns-3 c = refused_by _ 2 (passed₂ c.before) (fails c.before.before.holds_units_lem.ensures c.if3.true)
+returns-3 c = refused_by _ 2 (passed₂ c.before) (fails c.holds_units-whole.ensures c.if-not-whole.true)
 
-returns-4 : tie.Need-returns-4
+returns-4 : tie.Need-returns
 unfolding range_checks
 returns-4 c =
     let checks = list (start₂ c.before) in
-    all_pass checks (pass_next checks 2 (passed₂ c.before) (holds c.before.before.holds_units_lem.ensures c.if3.false))
+    all_pass checks (pass_next checks 2 (passed₂ c.before) (holds c.holds_units-whole.ensures c.if-not-whole.false))
 
-pub range-check-spec : {M : Type 1} → statement M
-range-check-spec =
+pub range_check_spec : {M : Type 1} → statement M
+range_check_spec =
     tie.close
     (tie.spec
-    (λ key-ok-requires κs. search rules)
+    (λ c κs. search rules)
     returns
-    (λ payload-units-requires κs. search rules)
-    (λ in-payload-requires κs. search rules)
-    (λ holds-units-requires κs. search rules)
+    (λ c κs. search rules)
+    (λ c κs. search rules)
+    (λ c κs. search rules)
     returns-2
     returns-3
     returns-4)

@@ -3,6 +3,7 @@ use mathlib.Core.Path.{◌≡◌, sym, ◌∙◌}
 use mathlib.Core.Logic.{◌≢◌}
 use Prim.Native.Nat.{◌+◌}
 use native.Mathlib.Omega.{arith}
+use borrow.Author.Tests.{not-true, not-false}
 use borrow.Author.Rules.{rules}
 use Rattle.octets.proofs.BoolLaws.{holds, fails}
 use Rattle.rules.specs.Checks.{first}
@@ -20,13 +21,13 @@ use Rattle.payload.proofs.read.Tie as tie
 
 -- ---- places
 
-abbrev at_1 : tie.Else1 → tie.Start
+abbrev at_1 : tie.Else-number_of-ne0 → tie.Start
 at_1 c = c.before.before.before.before.before.before
 
-abbrev at-2 : tie.Else2 → tie.Else1
-at-2 c = c.before.before.before.before
+abbrev at-2 : tie.Else-number_of-ne0-2 → tie.Else-number_of-ne0
+at-2 c = c.before.before.before
 
-abbrev at-3 : tie.Else3 → tie.Else2
+abbrev at-3 : tie.Else-not-t → tie.Else-number_of-ne0-2
 at-3 c = c.before.before.before
 
 abbrev facts : tie.Start → Facts
@@ -35,41 +36,41 @@ facts s = facts_in s.args.image.now
 abbrev call : tie.Start → Call
 call s = read s.args.key.now s.args.from.0 s.args.units.0 s.args.buffer.now
 
-header_ok : (c : tie.Else1) → HeaderOk (at_1 c).args.image.now
-header_ok c = sym c.before.before.header-check.ensures ∙ sym c.before.number_of_lem.ensures ∙ c.if1.false
+header_ok : (c : tie.Else-number_of-ne0) → HeaderOk (at_1 c).args.image.now
+header_ok c = sym c.header_check-h.ensures ∙ sym c.number_of.ensures ∙ c.if-number_of-ne0.false
 
-early_ok : (c : tie.Else2) → let s = at_1 (at-2 c) in first (early_checks (facts s) (call s)) ≡ 0
+early_ok : (c : tie.Else-number_of-ne0-2) → let s = at_1 (at-2 c) in first (early_checks (facts s) (call s)) ≡ 0
 unfolding early_checks
-early_ok c = sym c.before.before.range-check.ensures ∙ sym c.before.number-of2.ensures ∙ c.if2.false
+early_ok c = sym c.range_check-r.ensures ∙ sym c.number_of-2.ensures ∙ c.if-number_of-ne0-2.false
 
-late_ok : (c : tie.Else3) → let s = at_1 (at-2 (at-3 c)) in first (late_checks (facts s) (call s)) ≡ 0
+late_ok : (c : tie.Else-not-t) → let s = at_1 (at-2 (at-3 c)) in first (late_checks (facts s) (call s)) ≡ 0
 unfolding late_checks
 late_ok c =
     let s = at_1 (at-2 (at-3 c)) in
-    let t = c.before.before.key_matches in
-    first_pass (late_checks (facts s) (call s)) (holds t.ensures.matches_is c.if3.false, tt)
+    let t = c.key_matches-t in
+    first_pass (late_checks (facts s) (call s)) (sym t.ensures.matches_is ∙ not-false _ c.if-not-t.false, tt)
 
 -- ---- needs
 
-returns : tie.Need-returns
+returns : tie.Need-returns-then-number_of-ne0
 returns c =
-    let h = c.before.before.header-check in
+    let h = c.header_check-h in
     let s = c.before.before.before.before.before.before in
     let m = s.args.image.now in
-    let n : number h.result ≢ 0 = λ q. c.if1.true (c.before.number_of_lem.ensures ∙ q) in
+    let n : number h.result ≢ 0 = λ q. c.if-number_of-ne0.true (c.number_of.ensures ∙ q) in
     reads-refused built m (call s) _ 0 n s.args.buffer.now (step-header built m (call s) (number h.result) n h.ensures)
 
-returns-2 : tie.Need-returns-2
+returns-2 : tie.Need-returns-then-number_of-ne0-2
 unfolding early_checks
 returns-2 c =
-    let r = c.before.before.range-check in
-    let p = c.before.before.before.before in
+    let r = c.range_check-r in
+    let p = c.before.before.before in
     let s = at_1 p in
     let m = s.args.image.now in
-    let n : number r.result ≢ 0 = λ q. c.if2.true (c.before.number-of2.ensures ∙ q) in
+    let n : number r.result ≢ 0 = λ q. c.if-number_of-ne0-2.true (c.number_of-2.ensures ∙ q) in
     reads-refused built m (call s) _ 0 n s.args.buffer.now (step-early built m (call s) (header_ok p) (number r.result) n r.ensures)
 
-key-matches-requires : tie.Need-key-matches-requires
+key-matches-requires : tie.Need-key_matches-t-requires
 unfolding early_checks
 key-matches-requires c κs =
     let e = c in
@@ -77,45 +78,45 @@ key-matches-requires c κs =
     let a = s.args in
     (header_ok (at-2 e), (room a.image.now (header_ok (at-2 e)) a.key.now a.from.0 a.units.0 a.buffer.now (early_ok e)).key_most)
 
-returns-3 : tie.Need-returns-3
+returns-3 : tie.Need-returns-then-not-t
 unfolding late_checks test_cost
 returns-3 c =
-    let t = c.before.before.key_matches in
+    let t = c.key_matches-t in
     let e = c.before.before.before in
     let s = at_1 (at-2 e) in
     let m = s.args.image.now in
-    let wrong = fails t.ensures.matches_is c.if3.true in
+    let wrong = sym t.ensures.matches_is ∙ not-true _ c.if-not-t.true in
     reads-refused built m (call s) 17 t.result.values (λ q. omega arith) s.args.buffer.now
     (step-late built m (call s) (header_ok (at-2 e)) (early_ok e) 17 (λ q. omega arith) (refused_by (late_checks (facts s) (call s)) 0 tt wrong)
     t.result.values t.ensures.values_are)
 
-returns-4 : tie.Need-returns-4
+returns-4 : tie.Need-returns
 unfolding answer test_cost work_cost
 returns-4 c =
     let p = c.before.before.before.before in
     let e = at-3 p in
     let s = at_1 (at-2 e) in
     let m = s.args.image.now in
-    let t = p.before.before.key_matches in
+    let t = p.key_matches-t in
     let v : t.result.values ≡ checksum_cost (facts s) + 0 = omega (arith, t.ensures.values_are) in
-    let z = sym e.before.number-of2.ensures ∙ e.if2.left in
+    let z = sym e.number_of-2.ensures ∙ e.if-number_of-ne0-2.false in
     reads-accepted built m (call s) _ _ (step-accepted built m (call s) (header_ok (at-2 e)) (early_ok e) (late_ok p) t.result.values v)
-    _ s.args.buffer.now _ z z c.before.before.read-units.ensures
+    _ s.args.buffer.now _ z z c.read_units.ensures
 
 pub read_spec : {M : Type 1} → statement M
 read_spec =
     tie.close
     (tie.spec
-    (λ header-check-requires κs. search rules)
-    (λ number-of-requires κs. search rules)
+    (λ c κs. search rules)
+    (λ c κs. search rules)
     returns
-    (λ range-check-requires κs. search rules)
-    (λ number-of-requires-2 κs. search rules)
-    (λ same_length. search rules)
+    (λ c κs. search rules)
+    (λ c κs. search rules)
+    (λ c. search rules)
     returns-2
     key-matches-requires
-    (λ same-length-2. search rules)
+    (λ c. search rules)
     returns-3
-    (λ read-units-requires κs. search rules)
-    (λ same-length-3. search rules)
+    (λ c κs. search rules)
+    (λ c. search rules)
     returns-4)

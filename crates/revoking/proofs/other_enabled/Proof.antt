@@ -6,17 +6,22 @@ use Rattle.revoking.proofs.RevokeLaws.{other-before, other_after}
 use Rattle.revoking.proofs.other_enabled.Statement.{statement}
 use Rattle.revoking.proofs.other_enabled.Tie as tie
 
-returns : tie.Need-returns
+returns : tie.Need-returns-then-any_enabled
 returns c =
-    let a = c.before.before.before.args in
-    other-before a.image.now a.k (omega arith) (sym c.before.any-enabled.ensures ∙ c.if1.true)
+    let a = c.args in
+    other-before a.image.now a.k (omega arith) (sym c.any_enabled.ensures ∙ c.if-any_enabled.true)
 
-returns-2 : tie.Need-returns-2
+returns-2 : tie.Need-returns
 returns-2 c =
-    let a = c.before.before.before.before.args in
-    other_after a.image.now a.k (omega arith) _ (sym c.before.before.any-enabled.ensures ∙ c.before.if1.false) c.any-enabled2.ensures
+    let a = c.args in
+    other_after a.image.now a.k (omega arith) _ (sym c.any_enabled.ensures ∙ c.if-any_enabled.false) c.any_enabled-2.ensures
 
-pub other-enabled-spec : {M : Type 1} → statement M
-other-enabled-spec =
+pub other_enabled_spec : {M : Type 1} → statement M
+other_enabled_spec =
     tie.close
-    (tie.spec (λ any-enabled-requires κs. search rules) returns (λ add-any-enabled. search rules) (λ any-enabled-requires-2 κs. search rules) returns-2)
+    (tie.spec
+    (λ c κs. search rules)
+    returns
+    (λ c. search rules)
+    (λ c κs. search rules)
+    returns-2)

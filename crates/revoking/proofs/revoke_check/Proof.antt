@@ -20,96 +20,96 @@ use Rattle.revoking.proofs.revoke_check.Tie as tie
 abbrev checks : tie.Start → List Check
 checks s = early_checks (facts_in s.args.image.now) (revoke s.args.slot s.args.filler.now s.args.list.now)
 
-abbrev start-1 : tie.Else1 → tie.Start
+abbrev start-1 : tie.Else-not-slot_number_ok → tie.Start
 start-1 c = c.before.before.before.before.before
 
-abbrev start-2 : tie.Else2 → tie.Start
+abbrev start-2 : tie.Else-not-slot_enabled → tie.Start
 start-2 c = start-1 c.before.before
 
-abbrev start-3 : tie.Else3 → tie.Start
+abbrev start-3 : tie.Else-not-another → tie.Start
 start-3 c = start-2 c.before.before.before.before
 
-abbrev start-4 : tie.Else4 → tie.Start
+abbrev start-4 : tie.Else-not-fills → tie.Start
 start-4 c = start-3 c.before
 
-abbrev start-5 : tie.Else5 → tie.Start
+abbrev start-5 : tie.Else-not-listed → tie.Start
 start-5 c = start-4 c.before
 
-number_ok : (c : tie.Else1) → slot_number_ok (start-1 c).args.slot ≡ true
-number_ok c = holds c.before.slot-number-ok.ensures c.if1.false
+number_ok : (c : tie.Else-not-slot_number_ok) → slot_number_ok (start-1 c).args.slot ≡ true
+number_ok c = holds c.slot_number_ok.ensures c.if-not-slot_number_ok.false
 
-pass_1 : (c : tie.Else1) → Pass (take 1 (checks (start-1 c)))
+pass_1 : (c : tie.Else-not-slot_number_ok) → Pass (take 1 (checks (start-1 c)))
 unfolding early_checks
 pass_1 c = (number_ok c, tt)
 
-pass_2 : (c : tie.Else2) → Pass (take 2 (checks (start-2 c)))
+pass_2 : (c : tie.Else-not-slot_enabled) → Pass (take 2 (checks (start-2 c)))
 unfolding early_checks
-pass_2 c = pass_next (checks (start-2 c)) 1 (pass_1 c.before.before) (holds c.before.slot-enabled.ensures c.if2.false)
+pass_2 c = pass_next (checks (start-2 c)) 1 (pass_1 c.before.before) (holds c.slot_enabled.ensures c.if-not-slot_enabled.false)
 
-pass_3 : (c : tie.Else3) → Pass (take 3 (checks (start-3 c)))
+pass_3 : (c : tie.Else-not-another) → Pass (take 3 (checks (start-3 c)))
 unfolding early_checks
-pass_3 c = pass_next (checks (start-3 c)) 2 (pass_2 c.before.before.before.before) (holds c.before.before.before.other-enabled.ensures c.if3.false)
+pass_3 c = pass_next (checks (start-3 c)) 2 (pass_2 c.before.before.before.before) (holds c.other_enabled-another.ensures c.if-not-another.false)
 
-pass_4 : (c : tie.Else4) → Pass (take 4 (checks (start-4 c)))
+pass_4 : (c : tie.Else-not-fills) → Pass (take 4 (checks (start-4 c)))
 unfolding early_checks
-pass_4 c = pass_next (checks (start-4 c)) 3 (pass_3 c.before) (holds c.before.before.before.filler_passes.ensures c.if4.false)
+pass_4 c = pass_next (checks (start-4 c)) 3 (pass_3 c.before) (holds c.filler_ok-fills.ensures c.if-not-fills.false)
 
 -- ---- needs
 
-returns : tie.Need-returns
+returns : tie.Need-returns-then-not-slot_number_ok
 unfolding early_checks
-returns c = refused_by _ 0 tt (fails c.before.slot-number-ok.ensures c.if1.true)
+returns c = refused_by _ 0 tt (fails c.slot_number_ok.ensures c.if-not-slot_number_ok.true)
 
-slot-enabled-requires : tie.Need-slot-enabled-requires
+slot-enabled-requires : tie.Need-slot_enabled-requires
 slot-enabled-requires c κs = ((start-1 c).requires, number_ok c)
 
-returns-2 : tie.Need-returns-2
+returns-2 : tie.Need-returns-then-not-slot_enabled
 unfolding early_checks
-returns-2 c = refused_by _ 1 (pass_1 c.before.before) (fails c.before.slot-enabled.ensures c.if2.true)
+returns-2 c = refused_by _ 1 (pass_1 c.before.before) (fails c.slot_enabled.ensures c.if-not-slot_enabled.true)
 
-sub-other-enabled : tie.Need-overflow-sub-other-enabled
+sub-other-enabled : tie.Need-overflow_sub-slot
 sub-other-enabled c = omega (arith, (number_in (start-2 c).args.slot (number_ok c.before.before)).0)
 
-other-enabled-requires : tie.Need-other-enabled-requires
+other-enabled-requires : tie.Need-other_enabled-another-requires
 other-enabled-requires c κs =
     let s = start-2 c in
     let r = number_in s.args.slot (number_ok c.before.before) in
-    ((sound s.args.image.now s.pre).size, omega (arith, r.0, r.1))
+    ((sound s.args.image.now s.requires).size, omega (arith, r.0, r.1))
 
-filler-ok-requires : tie.Need-filler-ok-requires
+filler-ok-requires : tie.Need-filler_ok-fills-requires
 filler-ok-requires c κs = let p = c.before in ((start-2 p).requires, number_ok p.before.before)
 
-list-ok-requires : tie.Need-list-ok-requires
+list-ok-requires : tie.Need-list_ok-listed-requires
 list-ok-requires c κs = let p = c.before.before in ((start-2 p).requires, number_ok p.before.before)
 
-returns-3 : tie.Need-returns-3
+returns-3 : tie.Need-returns-then-not-another
 unfolding early_checks
-returns-3 c = refused_by _ 2 (pass_2 c.before.before.before.before) (fails c.before.before.before.other-enabled.ensures c.if3.true)
+returns-3 c = refused_by _ 2 (pass_2 c.before.before.before.before) (fails c.other_enabled-another.ensures c.if-not-another.true)
 
-returns-4 : tie.Need-returns-4
+returns-4 : tie.Need-returns-then-not-fills
 unfolding early_checks
-returns-4 c = refused_by _ 3 (pass_3 c.before) (fails c.before.before.before.filler_passes.ensures c.if4.true)
+returns-4 c = refused_by _ 3 (pass_3 c.before) (fails c.filler_ok-fills.ensures c.if-not-fills.true)
 
-returns-5 : tie.Need-returns-5
+returns-5 : tie.Need-returns-then-not-listed
 unfolding early_checks
-returns-5 c = refused_by _ 4 (pass_4 c.before) (fails c.before.before.before.list_passes.ensures c.if5.true)
+returns-5 c = refused_by _ 4 (pass_4 c.before) (fails c.list_ok-listed.ensures c.if-not-listed.true)
 
-returns-6 : tie.Need-returns-6
+returns-6 : tie.Need-returns
 unfolding early_checks
 returns-6 c =
     let all = checks (start-5 c) in
-    all_pass all (pass_next all 4 (pass_4 c.before) (holds c.before.before.before.list_passes.ensures c.if5.false))
+    all_pass all (pass_next all 4 (pass_4 c.before) (holds c.list_ok-listed.ensures c.if-not-listed.false))
 
-pub revoke-check-spec : {M : Type 1} → statement M
-revoke-check-spec =
+pub revoke_check_spec : {M : Type 1} → statement M
+revoke_check_spec =
     tie.close
     (tie.spec
-    (λ slot-number-ok-requires κs. search rules)
+    (λ c κs. search rules)
     returns
     slot-enabled-requires
     returns-2
     sub-other-enabled
-    (λ cast-other-enabled. search rules)
+    (λ c. search rules)
     other-enabled-requires
     filler-ok-requires
     list-ok-requires

@@ -10,6 +10,9 @@ ghost use Rattle.hmac.specs.Keyed.{keyed, finish_keyed};
 
 use hash::Hash;
 
+// The bytes of a block of either hash: a key with more is hashed.
+const BLOCK_BYTES: usize = 64;
+
 // The chaining words after the inner and the outer key block.
 #[derive(Clone, Copy)]
 pub struct Keyed {
@@ -32,7 +35,7 @@ fn key_block(hash: Hash, key: &[u8]) -> [u8; 64]
     requires { length key.now < 2 ^ 61 }
     ensures { result ≡ key_block (digest_of hash) key.now }
 {
-    if 64 < key.len() {
+    if BLOCK_BYTES < key.len() {
         let h = hash::digest(hash, key);
         let d = hash::size(hash);
         zero_pad(&h[..d])

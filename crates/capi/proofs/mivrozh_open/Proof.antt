@@ -5,7 +5,12 @@ use Rattle.capi.proofs.mivrozh_open.Statement.{statement}
 use Rattle.capi.proofs.mivrozh_open.Tie as tie
 
 returns : tie.Need-returns
-returns c = filled _ _ _ _ _ _ _ _ _ _ _ c.before.«open».ensures c.lay-opened.ensures
+returns c = filled _ _ _ _ _ _ _ _ _ _ _ c.before.«open».ensures c.lay_opened.ensures
 
-pub mivrozh-open-spec : {M : Type 1} → statement M
-mivrozh-open-spec = tie.close (tie.spec (λ open-requires κs. search rules) (λ lay-opened-requires κs. search rules) returns)
+pub mivrozh_open_spec : {M : Type 1} → statement M
+mivrozh_open_spec =
+    tie.close
+    (tie.spec
+    (λ c κs. search rules)
+    (λ c κs. search rules)
+    returns)

@@ -5,7 +5,12 @@ use Rattle.capi.proofs.mivrozh_open_slot.Statement.{statement}
 use Rattle.capi.proofs.mivrozh_open_slot.Tie as tie
 
 returns : tie.Need-returns
-returns c = filled _ _ _ _ _ _ _ _ _ _ _ c.before.open-slot.ensures c.lay-opened.ensures
+returns c = filled _ _ _ _ _ _ _ _ _ _ _ c.open_slot.ensures c.lay_opened.ensures
 
-pub mivrozh-open-slot-spec : {M : Type 1} → statement M
-mivrozh-open-slot-spec = tie.close (tie.spec (λ open-slot-requires κs. search rules) (λ lay-opened-requires κs. search rules) returns)
+pub mivrozh_open_slot_spec : {M : Type 1} → statement M
+mivrozh_open_slot_spec =
+    tie.close
+    (tie.spec
+    (λ c κs. search rules)
+    (λ c κs. search rules)
+    returns)

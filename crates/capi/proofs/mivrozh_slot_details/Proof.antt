@@ -6,14 +6,14 @@ use Rattle.capi.proofs.mivrozh_slot_details.Tie as tie
 
 returns : tie.Need-returns
 returns c =
-    let s = c.before.before.before.before.before.before.before.slot-details in
-    arrays_are _ _ s.result.entries s.ensures _ _ _ _ _ c.number_of_lem.ensures c.before.lay-entries.ensures
+    let s = c.slot_details-s in
+    arrays_are _ _ s.result.entries s.ensures _ _ _ _ _ c.number_of.ensures c.lay_entries.ensures
 
-pub mivrozh-slot-details-spec : {M : Type 1} → statement M
-mivrozh-slot-details-spec =
+pub mivrozh_slot_details_spec : {M : Type 1} → statement M
+mivrozh_slot_details_spec =
     tie.close
     (tie.spec
-    (λ slot-details-requires κs. search rules)
-    (λ lay-entries-requires κs. search rules)
-    (λ number-of-requires κs. search rules)
+    (λ c κs. search rules)
+    (λ c κs. search rules)
+    (λ c κs. search rules)
     returns)

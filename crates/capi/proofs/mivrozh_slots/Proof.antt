@@ -6,9 +6,14 @@ use Rattle.capi.proofs.mivrozh_slots.Tie as tie
 
 returns : tie.Need-returns
 returns c =
-    let s = c.before.slots.ensures in
-    let l = c.lay-slots.ensures in
+    let s = c.slots.ensures in
+    let l = c.lay_slots.ensures in
     record { code_is = l.0 ∙ s.code_is; entries_are = l.1 ∙ s.entries_are }
 
-pub mivrozh-slots-spec : {M : Type 1} → statement M
-mivrozh-slots-spec = tie.close (tie.spec (λ slots-requires κs. search rules) (λ lay-slots-requires κs. search rules) returns)
+pub mivrozh_slots_spec : {M : Type 1} → statement M
+mivrozh_slots_spec =
+    tie.close
+    (tie.spec
+    (λ c κs. search rules)
+    (λ c κs. search rules)
+    returns)

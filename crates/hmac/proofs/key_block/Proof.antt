@@ -25,19 +25,19 @@ zero-pad-requires c κs =
     let l : length h ≡ 32 = search rules in
     omega (arith, d.ensures.2, length-take-le d.result h (omega (arith, d.ensures.2)))
 
-returns : tie.Need-returns-then-key-gt64
+returns : tie.Need-returns-then-key-gt-BLOCK_BYTES
 returns c =
     let a = c.args in
     let h = c.digest-h in
     let H = digest_of a.hash in
     c.zero_pad.ensures
     ∙ ap (padded 64) (ap (λ (n : ℕ). take n h.result) c.size-d.ensures.0 ∙ h.ensures)
-    ∙ sym (key_block_long H a.key.now c.if-key-gt64.true)
+    ∙ sym (key_block_long H a.key.now c.if-key-gt-BLOCK_BYTES.true)
 
-returns-2 : tie.Need-returns-else-key-gt64
+returns-2 : tie.Need-returns-else-key-gt-BLOCK_BYTES
 returns-2 c =
     let a = c.args in
-    c.zero_pad-else-key-gt64.ensures ∙ sym (key_block_short (digest_of a.hash) a.key.now c.if-key-gt64.false)
+    c.zero_pad-else-key-gt-BLOCK_BYTES.ensures ∙ sym (key_block_short (digest_of a.hash) a.key.now c.if-key-gt-BLOCK_BYTES.false)
 
 pub key_block_spec : {M : Type 1} → statement M
 key_block_spec =

@@ -9,7 +9,7 @@ use Rattle.laying.proofs.EntriesLaws.{Laid, laid_next, laid_all}
 use Rattle.laying.proofs.lay_entries.Statement.{statement}
 use Rattle.laying.proofs.lay_entries.Tie as tie
 
-abbrev invariant_loop : tie.invariant_loop
+abbrev invariant_loop : tie.invariant-loop-i
 invariant_loop enabled₀ counts₀ starts₀ stripes₀ entries i₀ enabled counts starts stripes i =
     (i ≤ 8)
     × Laid (λ (e : Entry). e.enabled) entries enabled i
@@ -17,10 +17,10 @@ invariant_loop enabled₀ counts₀ starts₀ stripes₀ entries i₀ enabled co
     × Laid (λ (e : Entry). e.start.0) entries starts i
     × Laid (λ (e : Entry). e.stripes) entries stripes i
 
-abbrev decreases_loop : tie.decreases_loop
+abbrev decreases_loop : tie.decreases-loop-i
 decreases_loop enabled₀ counts₀ starts₀ stripes₀ entries i₀ enabled counts starts stripes i = 8 - i
 
-loop-holds : tie.Need-loop-init invariant_loop decreases_loop
+loop-holds : tie.Need-loop-i-init invariant_loop decreases_loop
 loop-holds c =
     let h = c.requires in (
       omega arith,
@@ -30,10 +30,10 @@ loop-holds c =
       record { eight = h.3; first_are = refl },
     )
 
-loop-again : tie.Need-loop-preserved invariant_loop decreases_loop
+loop-again : tie.Need-loop-i-preserved invariant_loop decreases_loop
 loop-again c =
-    let l = c.before.before.loop in
-    let h : length c.before.before.before.args.t5 ≡ 8 = search rules in (
+    let l = c.loop-i in
+    let h : length c.args.entries ≡ 8 = search rules in (
       omega arith,
       laid_next _ _ _ _ h l.invariant.1 _ (omega arith),
       laid_next _ _ _ _ h l.invariant.2 _ (omega arith),
@@ -41,43 +41,43 @@ loop-again c =
       laid_next _ _ _ _ h l.invariant.4 _ (omega arith),
     )
 
-same_length : tie.Need-same-length invariant_loop decreases_loop
-same_length c = c.before.loop.invariant.1.eight ∙ sym c.before.before.requires.0
+same_length : tie.Need-shape_of-enabled invariant_loop decreases_loop
+same_length c = c.loop-i.invariant.1.eight ∙ sym c.requires.0
 
-same-length-2 : tie.Need-same-length-2 invariant_loop decreases_loop
-same-length-2 c = c.before.loop.invariant.2.eight ∙ sym c.before.before.requires.1
+same-length-2 : tie.Need-shape_of-counts invariant_loop decreases_loop
+same-length-2 c = c.loop-i.invariant.2.eight ∙ sym c.requires.1
 
-same-length-3 : tie.Need-same-length-3 invariant_loop decreases_loop
-same-length-3 c = c.before.loop.invariant.3.eight ∙ sym c.before.before.requires.2
+same-length-3 : tie.Need-shape_of-starts invariant_loop decreases_loop
+same-length-3 c = c.loop-i.invariant.3.eight ∙ sym c.requires.2
 
-same-length-4 : tie.Need-same-length-4 invariant_loop decreases_loop
-same-length-4 c = c.before.loop.invariant.4.eight ∙ sym c.before.before.requires.3
+same-length-4 : tie.Need-shape_of-stripes invariant_loop decreases_loop
+same-length-4 c = c.loop-i.invariant.4.eight ∙ sym c.requires.3
 
 returns : tie.Need-returns invariant_loop decreases_loop
 returns c =
-    let l = c.before.loop in
-    let h : length c.before.before.args.t5 ≡ 8 = search rules in
+    let l = c.loop-i in
+    let h : length c.args.entries ≡ 8 = search rules in
     let n : l.i ≡ 8 = omega arith in
     (laid_all _ _ _ _ h l.invariant.1 n, laid_all _ _ _ _ h l.invariant.2 n, laid_all _ _ _ _ h l.invariant.3 n, laid_all _ _ _ _ h l.invariant.4 n)
 
-pub lay-entries-spec : {M : Type 1} → statement M
-lay-entries-spec =
+pub lay_entries_spec : {M : Type 1} → statement M
+lay_entries_spec =
     tie.close
     (tie.spec
     invariant_loop
     decreases_loop
     loop-holds
-    (λ mul-e. search rules)
-    (λ array-copy-out-e. search rules)
-    (λ slice-write-enabled. search rules)
-    (λ mul-counts. search rules)
-    (λ slice-write-counts. search rules)
-    (λ mul-starts. search rules)
-    (λ slice-write-starts. search rules)
-    (λ mul-stripes. search rules)
-    (λ slice-write-stripes. search rules)
-    (λ add-i. search rules)
-    (λ loop-less. search rules)
+    (λ c. search rules)
+    (λ c. search rules)
+    (λ c. search rules)
+    (λ c. search rules)
+    (λ c. search rules)
+    (λ c. search rules)
+    (λ c. search rules)
+    (λ c. search rules)
+    (λ c. search rules)
+    (λ c. search rules)
+    (λ c. search rules)
     loop-again
     same_length
     same-length-2

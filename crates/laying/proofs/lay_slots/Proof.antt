@@ -7,24 +7,24 @@ use Rattle.octets.proofs.SpliceLaws.{splice_all}
 use Rattle.laying.proofs.lay_slots.Statement.{statement}
 use Rattle.laying.proofs.lay_slots.Tie as tie
 
-copy-into-requires : tie.Need-copy-into-requires
+copy-into-requires : tie.Need-copy_into-requires
 copy-into-requires c κs =
-    let b : length c.before.before.before.args.s.enabled ≡ 8 = search rules in
-    let m : length c.before.before.before.args.enabled.now ≡ 8 = search rules in
+    let b : length c.args.s.enabled ≡ 8 = search rules in
+    let m : length c.args.enabled.now ≡ 8 = search rules in
     omega arith
 
 returns : tie.Need-returns
 returns c =
-    let s = c.before.before.before.before.before in
+    let s = c in
     let b : length s.args.s.enabled ≡ 8 = search rules in
     let m : length s.args.enabled.now ≡ 8 = search rules in
-    (c.number_of_lem.ensures, c.before.copy-into.ensures ∙ splice_all _ s.args.s.enabled (omega arith))
+    (c.number_of.ensures, c.copy_into.ensures ∙ splice_all _ s.args.s.enabled (omega arith))
 
-pub lay-slots-spec : {M : Type 1} → statement M
-lay-slots-spec =
+pub lay_slots_spec : {M : Type 1} → statement M
+lay_slots_spec =
     tie.close
     (tie.spec
-    (λ slice-aggregate-copy-into. search rules)
+    (λ c. search rules)
     copy-into-requires
-    (λ number-of-requires κs. search rules)
+    (λ c κs. search rules)
     returns)

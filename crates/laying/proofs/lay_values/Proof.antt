@@ -5,7 +5,11 @@ use Rattle.laying.proofs.lay_values.Statement.{statement}
 use Rattle.laying.proofs.lay_values.Tie as tie
 
 returns : tie.Need-returns
-returns c = (c.number_of_lem.ensures, refl)
+returns c = (c.number_of.ensures, refl)
 
-pub lay-values-spec : {M : Type 1} → statement M
-lay-values-spec = tie.close (tie.spec (λ number-of-requires κs. search rules) returns)
+pub lay_values_spec : {M : Type 1} → statement M
+lay_values_spec =
+    tie.close
+    (tie.spec
+    (λ c κs. search rules)
+    returns)

@@ -343,7 +343,10 @@ fn no_key_stays_on_the_stack() {
         let found = bare.pieces_of(&key) + bare.pieces_of(&derived);
         println!("profile {profile}, {call:?}: {found} pieces of keys where nothing is wiped");
         // Of format as it is compiled today no piece of a key is left; all others show that the search finds what is there.
-        assert!(found > 0 || matches!(call, Call::Format), "profile {profile}, {call:?}: this test would not see a key");
+        assert!(
+            found > 0 || matches!(call, Call::Format),
+            "profile {profile}, {call:?}: this test would not see a key"
+        );
 
         let mut scene = Scene::new(profile);
         let bound = stack_after(&mut || scene.bound(call));

@@ -2,7 +2,7 @@
 #![tactic(auto)]
 
 use header::Outcome;
-use libc::STDOUT_FILENO;
+use std::io;
 
 // The number of a call's refusal.
 pub fn number_of(o: Outcome) -> u8 {
@@ -11,38 +11,27 @@ pub fn number_of(o: Outcome) -> u8 {
 }
 
 // The drive's hash and the bits of its volume key; of the one with the old start also that.
-fn name(drive: u64) {
-    match drive {
-        1 => {
-            io::write_all(STDOUT_FILENO, b"sha1, 256-bit drive: ");
-        }
-        2 => {
-            io::write_all(STDOUT_FILENO, b"sha1, 512-bit drive: ");
-        }
-        3 => {
-            io::write_all(STDOUT_FILENO, b"sha256, 256-bit drive: ");
-        }
-        4 => {
-            io::write_all(STDOUT_FILENO, b"sha256, 512-bit drive: ");
-        }
-        _ => {
-            io::write_all(STDOUT_FILENO, b"payload start 65, sha1, 256-bit drive: ");
-        }
-    }
+fn name(rt: &impl Print, drive: u64) -> io::Result<()> {
+    let text = match drive {
+        1 => "sha1, 256-bit drive: ",
+        2 => "sha1, 512-bit drive: ",
+        3 => "sha256, 256-bit drive: ",
+        4 => "sha256, 512-bit drive: ",
+        _ => "payload start 65, sha1, 256-bit drive: ",
+    };
+    rt.print(text)
 }
 
-pub fn line(drive: u64, what: &[u8], ok: bool) {
-    name(drive);
-    testing::line(what, ok);
+pub fn line(rt: &impl Print, drive: u64, what: &[u8], ok: bool) -> io::Result<()> {
+    name(rt, drive)?;
+    testing::line(rt, what, ok)
 }
 
 // The same, of a slot.
-pub fn slot_line(drive: u64, slot: u8, what: &[u8], ok: bool) {
-    name(drive);
-    io::write_all(STDOUT_FILENO, b"slot ");
-    io::print_decimal(STDOUT_FILENO, slot as u64);
-    io::write_all(STDOUT_FILENO, b" ");
-    testing::line(what, ok);
+pub fn slot_line(rt: &impl Print, drive: u64, slot: u8, what: &[u8], ok: bool) -> io::Result<()> {
+    name(rt, drive)?;
+    print!(rt; "slot {slot} ")?;
+    testing::line(rt, what, ok)
 }
 
 // The four bytes at an index, as one number.

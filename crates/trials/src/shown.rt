@@ -1,5 +1,6 @@
 // The two screens of a drive: which slots are enabled, and the records' numbers beside it; zeros beside a refusal's number.
 use screens::Entry;
+use std::io;
 
 // A number of the record of the slot at index i, counted from 0, where the header is accepted.
 fn field(image: &[u8], number: u8, i: usize, at: usize) -> u32 {
@@ -51,7 +52,13 @@ pub fn screens_are(image: &[u8], number: u8, enabled: &[u8; 8]) -> bool {
     first && second
 }
 
-pub fn shows(drive: u64, what: &[u8], image: &[u8], enabled: &[u8; 8]) {
+pub fn shows(
+    rt: &impl Print,
+    drive: u64,
+    what: &[u8],
+    image: &[u8],
+    enabled: &[u8; 8],
+) -> io::Result<()> {
     let ok = screens_are(image, 0, enabled);
-    reports::line(drive, what, ok);
+    reports::line(rt, drive, what, ok)
 }

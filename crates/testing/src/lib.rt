@@ -1,7 +1,7 @@
 // What the test programs share: bytes that are made and not stored, a file read whole, and the line of a verdict.
 #![tactic(auto)]
 
-ghost use Rattle.std.specs.Prelude.{◌≤◌};
+ghost use Rattle.std.specs.Prelude.{◌≡◌, ◌≤◌, length};
 ghost use Rattle.std.specs.Io.{ReadsAtMost};
 
 use std::fs::File;
@@ -45,9 +45,10 @@ fn read_full(input: &mut impl Read, s: &mut [u8]) -> io::Result<usize>
     Ok(done)
 }
 
-// Reads the file into s. The number of its bytes, or 0 if s has no room for all of them.
+// Reads the file into s. The number of its bytes, or 0 if s has no room for all of them. After an error some bytes of s may be the file's.
 pub fn load(rt: &impl Files, s: &mut [u8], name: &[u8]) -> io::Result<usize>
-    ensures { ReadsAtMost result s.new }
+    ensures within { ReadsAtMost result s.new }
+    ensures room { length s.new ≡ length s.old }
 {
     let mut more = [0u8; 1];
     let mut file = File::open(rt, text_of(name)?)?;

@@ -3,13 +3,21 @@ use mathlib.Core.Path.{◌≡◌, refl, sym, ◌∙◌}
 use mathlib.Core.Bool.{Bool, true, false, ◌&&◌, ◌||◌, not}
 use Prim.Native.Nat.{ℕ}
 use native.Mathlib.Omega.{arith}
+use borrow.Author.Tests.{not-true, not-false}
 
 -- a test b that a function returned as r: it holds where the code goes on behind `!r`, and fails where the code returns
-pub holds : {r b : Bool} → r ≡ b → r ≡ true → b ≡ true
-holds e n = sym e ∙ n
+pub holds : {r b : Bool} → r ≡ b → not r ≡ false → b ≡ true
+holds {r} e n = sym e ∙ not-false r n
 
-pub fails : {r b : Bool} → r ≡ b → r ≡ false → b ≡ false
-fails e n = sym e ∙ n
+pub fails : {r b : Bool} → r ≡ b → not r ≡ true → b ≡ false
+fails {r} e n = sym e ∙ not-true r n
+
+-- the same where the checker says it of r itself, as it does where the test is the call
+pub true_by : {r b : Bool} → r ≡ b → r ≡ true → b ≡ true
+true_by e n = sym e ∙ n
+
+pub false_by : {r b : Bool} → r ≡ b → r ≡ false → b ≡ false
+false_by e n = sym e ∙ n
 
 pub and_no : (a b : Bool) → a ≡ false → false ≡ (a && b)
 and_no a b e = rw e

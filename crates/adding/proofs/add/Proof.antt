@@ -5,7 +5,7 @@ use mathlib.Core.List.{List}
 use Prim.Native.Nat.{ℕ, ◌+◌, ◌^◌, ◌<◌}
 use native.Mathlib.Omega.{arith}
 use lib.ListN.{length}
-use borrow.Author.Tests.{eqb-true, not-true, not-false}
+use borrow.Author.Tests.{eqb-true}
 use borrow.Author.Rules.{rules}
 use Rattle.octets.proofs.BoolLaws.{holds, fails}
 use Rattle.rules.specs.Checks.{Check, first}
@@ -74,7 +74,7 @@ late-zero : (c : tie.Else-not-t) → first (late (start₃ (tested c))) ≡ 0
 unfolding late_checks
 late-zero c =
     let t = (tested c).key_matches-t in
-    first_pass (late (start₃ (tested c))) (sym t.ensures.matches_is ∙ not-false _ c.if-not-t.false, tt)
+    first_pass (late (start₃ (tested c))) (holds t.ensures.matches_is c.if-not-t.false, tt)
 
 -- ---- needs
 
@@ -116,7 +116,7 @@ returns-3 c =
     let t = k.key_matches-t in
     lists_refused built m (called s) 17 t.result.values (λ q. omega arith) s.args.list.now
     (step-late built m (called s) (header_ok (checked e.before)) (early-zero e) 17 (λ q. omega arith)
-    (refused_by (late s) 0 tt (sym t.ensures.matches_is ∙ not-true _ c.if-not-t.true)) t.result.values t.ensures.values_are)
+    (refused_by (late s) 0 tt (fails t.ensures.matches_is c.if-not-t.true)) t.result.values t.ensures.values_are)
 
 -- ---- where the slot is enabled
 

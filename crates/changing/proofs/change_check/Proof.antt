@@ -5,7 +5,7 @@ use mathlib.Core.Bool.{true}
 use Prim.Native.Nat.{ℕ}
 use lib.ListN.{take}
 use borrow.Author.Rules.{rules}
-use Rattle.octets.proofs.BoolLaws.{holds, fails, and_split}
+use Rattle.octets.proofs.BoolLaws.{true_by, false_by, and_split}
 use Rattle.rules.specs.Checks.{Check}
 use Rattle.rules.specs.Facts.{slot_input}
 use Rattle.rules.specs.Calls.{change, slot_number_ok, early_checks}
@@ -45,7 +45,7 @@ start₆ c = start₅ c.before.before
 
 passed₁ : (c : tie.Else-not-numbers_ok) (salt : List ℕ) → Pass (take 1 (checks (start₁ c) salt))
 unfolding early_checks
-passed₁ c salt = (holds c.numbers_ok.ensures c.if-not-numbers_ok.false, tt)
+passed₁ c salt = (true_by c.numbers_ok.ensures c.if-not-numbers_ok.false, tt)
 
 numbers : (c : tie.Else-not-numbers_ok) → (slot_number_ok (start₁ c).args.from ≡ true) × (slot_number_ok (start₁ c).args.to ≡ true)
 unfolding early_checks
@@ -53,44 +53,44 @@ numbers c = let a = (start₁ c).args in and_split (slot_number_ok a.from) (slot
 
 passed₂ : (c : tie.Else-not-states) (salt : List ℕ) → Pass (take 2 (checks (start₂ c) salt))
 unfolding early_checks
-passed₂ c salt = pass_next (checks (start₂ c) salt) 1 (passed₁ c.before.before.before salt) (holds c.states_ok-states.ensures c.if-not-states.false)
+passed₂ c salt = pass_next (checks (start₂ c) salt) 1 (passed₁ c.before.before.before salt) (true_by c.states_ok-states.ensures c.if-not-states.false)
 
 passed₃ : (c : tie.Else-not-passphrases) (salt : List ℕ) → Pass (take 3 (checks (start₃ c) salt))
 unfolding early_checks
-passed₃ c salt = pass_next (checks (start₃ c) salt) 2 (passed₂ c.before salt) (holds c.passphrases_ok-passphrases.ensures c.if-not-passphrases.false)
+passed₃ c salt = pass_next (checks (start₃ c) salt) 2 (passed₂ c.before salt) (true_by c.passphrases_ok-passphrases.ensures c.if-not-passphrases.false)
 
 passed₄ : (c : tie.Else-not-count_ok) (salt : List ℕ) → Pass (take 4 (checks (start₄ c) salt))
 unfolding early_checks
-passed₄ c salt = pass_next (checks (start₄ c) salt) 3 (passed₃ c.before.before salt) (holds c.count_ok.ensures c.if-not-count_ok.false)
+passed₄ c salt = pass_next (checks (start₄ c) salt) 3 (passed₃ c.before.before salt) (true_by c.count_ok.ensures c.if-not-count_ok.false)
 
 passed₅ : (c : tie.Else-not-lengths_ok) (salt : List ℕ) → Pass (take 5 (checks (start₅ c) salt))
 unfolding early_checks
-passed₅ c salt = pass_next (checks (start₅ c) salt) 4 (passed₄ c.before.before salt) (holds c.lengths_ok.ensures c.if-not-lengths_ok.false)
+passed₅ c salt = pass_next (checks (start₅ c) salt) 4 (passed₄ c.before.before salt) (true_by c.lengths_ok.ensures c.if-not-lengths_ok.false)
 
 passed₆ : (c : tie.Else-not-lists_ok) (salt : List ℕ) → Pass (checks (start₆ c) salt)
 unfolding early_checks
-passed₆ c salt = pass_next (checks (start₆ c) salt) 5 (passed₅ c.before.before salt) (holds c.lists_ok.ensures c.if-not-lists_ok.false)
+passed₆ c salt = pass_next (checks (start₆ c) salt) 5 (passed₅ c.before.before salt) (true_by c.lists_ok.ensures c.if-not-lists_ok.false)
 
 -- ---- needs
 
 returns : tie.Need-returns-then-not-numbers_ok
 unfolding early_checks
-returns c salt = refused_by _ 0 tt (fails c.numbers_ok.ensures c.if-not-numbers_ok.true)
+returns c salt = refused_by _ 0 tt (false_by c.numbers_ok.ensures c.if-not-numbers_ok.true)
 
 states-ok-requires : tie.Need-states_ok-states-requires
 states-ok-requires c κs = let n = numbers c in ((start₁ c).requires, n.0, n.1)
 
 returns-2 : tie.Need-returns-then-not-states
 unfolding early_checks
-returns-2 c salt = refused_by _ 1 (passed₁ c.before.before.before salt) (fails c.states_ok-states.ensures c.if-not-states.true)
+returns-2 c salt = refused_by _ 1 (passed₁ c.before.before.before salt) (false_by c.states_ok-states.ensures c.if-not-states.true)
 
 returns-3 : tie.Need-returns-then-not-passphrases
 unfolding early_checks
-returns-3 c salt = refused_by _ 2 (passed₂ c.before salt) (fails c.passphrases_ok-passphrases.ensures c.if-not-passphrases.true)
+returns-3 c salt = refused_by _ 2 (passed₂ c.before salt) (false_by c.passphrases_ok-passphrases.ensures c.if-not-passphrases.true)
 
 returns-4 : tie.Need-returns-then-not-count_ok
 unfolding early_checks
-returns-4 c salt = refused_by _ 3 (passed₃ c.before.before salt) (fails c.count_ok.ensures c.if-not-count_ok.true)
+returns-4 c salt = refused_by _ 3 (passed₃ c.before.before salt) (false_by c.count_ok.ensures c.if-not-count_ok.true)
 
 lengths-ok-requires : tie.Need-lengths_ok-requires
 lengths-ok-requires c κs =
@@ -100,7 +100,7 @@ lengths-ok-requires c κs =
 
 returns-5 : tie.Need-returns-then-not-lengths_ok
 unfolding early_checks
-returns-5 c salt = refused_by _ 4 (passed₄ c.before.before salt) (fails c.lengths_ok.ensures c.if-not-lengths_ok.true)
+returns-5 c salt = refused_by _ 4 (passed₄ c.before.before salt) (false_by c.lengths_ok.ensures c.if-not-lengths_ok.true)
 
 lists-ok-requires : tie.Need-lists_ok-requires
 lists-ok-requires c κs =
@@ -110,7 +110,7 @@ lists-ok-requires c κs =
 
 returns-6 : tie.Need-returns-then-not-lists_ok
 unfolding early_checks
-returns-6 c salt = refused_by _ 5 (passed₅ c.before.before salt) (fails c.lists_ok.ensures c.if-not-lists_ok.true)
+returns-6 c salt = refused_by _ 5 (passed₅ c.before.before salt) (false_by c.lists_ok.ensures c.if-not-lists_ok.true)
 
 returns-7 : tie.Need-returns
 returns-7 c salt = all_pass (checks (start₆ c) salt) (passed₆ c salt)

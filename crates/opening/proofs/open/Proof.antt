@@ -4,7 +4,7 @@ use mathlib.Core.Bool.{true}
 use Prim.Native.Nat.{◌+◌}
 use native.Mathlib.Omega.{arith}
 use borrow.Author.Rules.{rules}
-use Rattle.octets.proofs.BoolLaws.{holds, fails}
+use Rattle.octets.proofs.BoolLaws.{true_by, false_by}
 use Rattle.rules.specs.Checks.{first}
 use Rattle.rules.specs.Facts.{Facts}
 use Rattle.rules.specs.Calls.{Call, open_any, passphrase_ok, early_checks, late_checks, answer, opened}
@@ -38,7 +38,7 @@ header_ok : (c : tie.Else-number_of-ne0) → HeaderOk (at_1 c).args.image.now
 header_ok c = sym c.header_check-h.ensures ∙ sym c.number_of.ensures ∙ c.if-number_of-ne0.false
 
 passphrase_passes : (c : tie.Else-not-passphrase_ok) → passphrase_ok (at_1 (at-2 c)).args.passphrase.now ≡ true
-passphrase_passes c = holds c.passphrase_ok.ensures c.if-not-passphrase_ok.false
+passphrase_passes c = true_by c.passphrase_ok.ensures c.if-not-passphrase_ok.false
 
 early_ok : (c : tie.Else-not-passphrase_ok) → let s = at_1 (at-2 c) in first (early_checks (facts s) (call s)) ≡ 0
 unfolding early_checks
@@ -62,7 +62,7 @@ returns-2 c =
     let p = c.before.before.before in
     let s = at_1 p in
     let m = s.args.image.now in
-    let bad = fails t.ensures c.if-not-passphrase_ok.true in
+    let bad = false_by t.ensures c.if-not-passphrase_ok.true in
     opens-refused m (call s) (no-key_any s.args.passphrase.now) c.refused-then-not-passphrase_ok.ensures
     (step-early built m (call s) (header_ok p) 14 (λ q. omega arith) (refused_by (early_checks (facts s) (call s)) 0 tt bad))
 

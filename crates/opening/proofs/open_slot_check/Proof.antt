@@ -4,7 +4,7 @@ use mathlib.Core.List.{List}
 use mathlib.Core.Bool.{true}
 use lib.ListN.{take}
 use borrow.Author.Rules.{rules}
-use Rattle.octets.proofs.BoolLaws.{holds, fails}
+use Rattle.octets.proofs.BoolLaws.{true_by, false_by}
 use Rattle.rules.specs.Checks.{Check}
 use Rattle.rules.specs.Calls.{open_slot, slot_number_ok, early_checks}
 use Rattle.rules.proofs.ChecksLaws.{Pass, refused_by, all_pass, pass_next}
@@ -24,7 +24,7 @@ abbrev start₂ : tie.Else-not-fits → tie.Start
 start₂ c = start₁ c.before.before.before
 
 number_ok : (c : tie.Else-not-slot_number_ok) → slot_number_ok (start₁ c).args.slot ≡ true
-number_ok c = holds c.slot_number_ok.ensures c.if-not-slot_number_ok.false
+number_ok c = true_by c.slot_number_ok.ensures c.if-not-slot_number_ok.false
 
 passed₁ : (c : tie.Else-not-slot_number_ok) → Pass (take 1 (list (start₁ c)))
 unfolding early_checks
@@ -32,30 +32,30 @@ passed₁ c = (number_ok c, tt)
 
 passed₂ : (c : tie.Else-not-fits) → Pass (take 2 (list (start₂ c)))
 unfolding early_checks
-passed₂ c = pass_next (list (start₂ c)) 1 (passed₁ c.before.before.before) (holds c.passphrase_ok-fits.ensures c.if-not-fits.false)
+passed₂ c = pass_next (list (start₂ c)) 1 (passed₁ c.before.before.before) (true_by c.passphrase_ok-fits.ensures c.if-not-fits.false)
 
 -- ---- needs
 
 returns : tie.Need-returns-then-not-slot_number_ok
 unfolding early_checks
-returns c = refused_by _ 0 tt (fails c.slot_number_ok.ensures c.if-not-slot_number_ok.true)
+returns c = refused_by _ 0 tt (false_by c.slot_number_ok.ensures c.if-not-slot_number_ok.true)
 
 slot-enabled-requires : tie.Need-slot_enabled-enabled-requires
 slot-enabled-requires c κs = ((start₁ c.before).requires, number_ok c.before)
 
 returns-2 : tie.Need-returns-then-not-fits
 unfolding early_checks
-returns-2 c = refused_by _ 1 (passed₁ c.before.before.before) (fails c.passphrase_ok-fits.ensures c.if-not-fits.true)
+returns-2 c = refused_by _ 1 (passed₁ c.before.before.before) (false_by c.passphrase_ok-fits.ensures c.if-not-fits.true)
 
 returns-3 : tie.Need-returns-then-not-enabled
 unfolding early_checks
-returns-3 c = refused_by _ 2 (passed₂ c.before) (fails c.slot_enabled-enabled.ensures c.if-not-enabled.true)
+returns-3 c = refused_by _ 2 (passed₂ c.before) (false_by c.slot_enabled-enabled.ensures c.if-not-enabled.true)
 
 returns-4 : tie.Need-returns
 unfolding early_checks
 returns-4 c =
     let checks = list (start₂ c.before) in
-    all_pass checks (pass_next checks 2 (passed₂ c.before) (holds c.slot_enabled-enabled.ensures c.if-not-enabled.false))
+    all_pass checks (pass_next checks 2 (passed₂ c.before) (true_by c.slot_enabled-enabled.ensures c.if-not-enabled.false))
 
 pub open_slot_check_spec : {M : Type 1} → statement M
 open_slot_check_spec =

@@ -5,7 +5,7 @@ use Prim.Native.Nat.{◌+◌, ◌/◌}
 use lib.Dec.{leb}
 use lib.ListN.{length, take}
 use borrow.Author.Rules.{rules}
-use Rattle.octets.proofs.BoolLaws.{holds, fails}
+use Rattle.octets.proofs.BoolLaws.{true_by, false_by}
 use Rattle.rules.specs.Checks.{Check}
 use Rattle.rules.specs.Calls.{range_checks}
 use Rattle.rules.proofs.ChecksLaws.{Pass, refused_by, all_pass, pass_next}
@@ -33,31 +33,31 @@ range-is c =
 
 passed₁ : (c : tie.Else-not-key_ok) → Pass (take 1 (list (start₁ c)))
 unfolding range_checks
-passed₁ c = (holds c.key_ok.ensures c.if-not-key_ok.false, tt)
+passed₁ c = (true_by c.key_ok.ensures c.if-not-key_ok.false, tt)
 
 passed₂ : (c : tie.Else-not-inside) → Pass (take 2 (list (start₂ c)))
 unfolding range_checks
-passed₂ c = pass_next (list (start₂ c)) 1 (passed₁ c.before.before.before.before) (holds (range-is c.before.before) c.if-not-inside.false)
+passed₂ c = pass_next (list (start₂ c)) 1 (passed₁ c.before.before.before.before) (true_by (range-is c.before.before) c.if-not-inside.false)
 
 -- ---- needs
 
 returns : tie.Need-returns-then-not-key_ok
 unfolding range_checks
-returns c = refused_by _ 0 tt (fails c.key_ok.ensures c.if-not-key_ok.true)
+returns c = refused_by _ 0 tt (false_by c.key_ok.ensures c.if-not-key_ok.true)
 
 returns-2 : tie.Need-returns-then-not-inside
 unfolding range_checks
-returns-2 c = refused_by _ 1 (passed₁ c.before.before.before.before) (fails (range-is c.before.before) c.if-not-inside.true)
+returns-2 c = refused_by _ 1 (passed₁ c.before.before.before.before) (false_by (range-is c.before.before) c.if-not-inside.true)
 
 returns-3 : tie.Need-returns-then-not-whole
 unfolding range_checks
-returns-3 c = refused_by _ 2 (passed₂ c.before) (fails c.holds_units-whole.ensures c.if-not-whole.true)
+returns-3 c = refused_by _ 2 (passed₂ c.before) (false_by c.holds_units-whole.ensures c.if-not-whole.true)
 
 returns-4 : tie.Need-returns
 unfolding range_checks
 returns-4 c =
     let checks = list (start₂ c.before) in
-    all_pass checks (pass_next checks 2 (passed₂ c.before) (holds c.holds_units-whole.ensures c.if-not-whole.false))
+    all_pass checks (pass_next checks 2 (passed₂ c.before) (true_by c.holds_units-whole.ensures c.if-not-whole.false))
 
 pub range_check_spec : {M : Type 1} → statement M
 range_check_spec =

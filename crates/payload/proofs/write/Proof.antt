@@ -2,7 +2,6 @@
 use mathlib.Core.Path.{◌≡◌, sym, ◌∙◌}
 use Prim.Native.Nat.{◌+◌}
 use native.Mathlib.Omega.{arith}
-use borrow.Author.Tests.{not-true, not-false}
 use borrow.Author.Rules.{rules}
 use Rattle.octets.proofs.BoolLaws.{holds, fails}
 use Rattle.rules.specs.Checks.{first}
@@ -47,7 +46,7 @@ unfolding late_checks
 late_ok c =
     let s = at_1 (at-2 (at-3 c)) in
     let t = c.key_matches-t in
-    first_pass (late_checks (facts s) (call s)) (sym t.ensures.matches_is ∙ not-false _ c.if-not-t.false, tt)
+    first_pass (late_checks (facts s) (call s)) (holds t.ensures.matches_is c.if-not-t.false, tt)
 
 -- ---- needs
 
@@ -84,7 +83,7 @@ returns-3 c =
     let e = c.before.before.before in
     let s = at_1 (at-2 e) in
     let m = s.args.image.now in
-    let wrong = sym t.ensures.matches_is ∙ not-true _ c.if-not-t.true in
+    let wrong = fails t.ensures.matches_is c.if-not-t.true in
     does_refused built m (call s) 17 t.result.values
     (step-late built m (call s) (header_ok (at-2 e)) (early_ok e) 17 (λ q. omega arith) (refused_by (late_checks (facts s) (call s)) 0 tt wrong)
     t.result.values t.ensures.values_are)

@@ -4,7 +4,7 @@ use mathlib.Core.Bool.{Bool, true, false, ◌&&◌}
 use lib.Dec.{eqb}
 use lib.ListN.{length}
 use borrow.Author.Rules.{rules}
-use Rattle.octets.proofs.BoolLaws.{holds, fails, and_no, and_yes}
+use Rattle.octets.proofs.BoolLaws.{true_by, false_by, and_no, and_yes}
 use Rattle.profiles.specs.Records.{same_text, has_row}
 use Rattle.profiles.proofs.has_row.Statement.{statement}
 use Rattle.profiles.proofs.has_row.Tie as tie
@@ -33,13 +33,13 @@ abbrev key_fits : tie.Start → Bool
 key_fits s = eqb s.args.key_bytes s.args.p.key_bytes
 
 cipher_yes : (c : tie.Else-not-same_text) → cipher-fits (at_1 c) ≡ true
-cipher_yes c = holds c.same_text.ensures c.if-not-same_text.false
+cipher_yes c = true_by c.same_text.ensures c.if-not-same_text.false
 
 mode_yes : (c : tie.Else-not-same_text-2) → mode-fits (at_1 (at-2 c)) ≡ true
-mode_yes c = holds c.same_text-2.ensures c.if-not-same_text-2.false
+mode_yes c = true_by c.same_text-2.ensures c.if-not-same_text-2.false
 
 hash_yes : (c : tie.Else-not-same_text-3) → hash-fits (at_1 (at-2 (at-3 c))) ≡ true
-hash_yes c = holds c.same_text-3.ensures c.if-not-same_text-3.false
+hash_yes c = true_by c.same_text-3.ensures c.if-not-same_text-3.false
 
 -- ---- needs
 
@@ -54,7 +54,7 @@ returns : tie.Need-returns-then-not-same_text
 unfolding has_row
 returns c =
     let s = c.before.before.before.before.before in
-    and_no (cipher-fits s) (mode-fits s && (hash-fits s && key_fits s)) (fails c.same_text.ensures c.if-not-same_text.true)
+    and_no (cipher-fits s) (mode-fits s && (hash-fits s && key_fits s)) (false_by c.same_text.ensures c.if-not-same_text.true)
 
 same-text_requires_2 : tie.Need-same_text-requires-2
 same-text_requires_2 c κs =
@@ -69,7 +69,7 @@ returns-2 c =
     let e = c.before.before.before.before.before in
     let s = at_1 e in
     and_yes (cipher-fits s) (mode-fits s && (hash-fits s && key_fits s)) false (cipher_yes e)
-    (and_no (mode-fits s) (hash-fits s && key_fits s) (fails c.same_text-2.ensures c.if-not-same_text-2.true))
+    (and_no (mode-fits s) (hash-fits s && key_fits s) (false_by c.same_text-2.ensures c.if-not-same_text-2.true))
 
 same-text_requires_3 : tie.Need-same_text-requires-3
 same-text_requires_3 c κs =
@@ -85,7 +85,7 @@ returns-3 c =
     let s = at_1 (at-2 e) in
     and_yes (cipher-fits s) (mode-fits s && (hash-fits s && key_fits s)) false (cipher_yes (at-2 e))
     (and_yes (mode-fits s) (hash-fits s && key_fits s) false (mode_yes e)
-    (and_no (hash-fits s) (key_fits s) (fails c.same_text-3.ensures c.if-not-same_text-3.true)))
+    (and_no (hash-fits s) (key_fits s) (false_by c.same_text-3.ensures c.if-not-same_text-3.true)))
 
 returns-4 : tie.Need-returns
 unfolding has_row

@@ -4,7 +4,7 @@ use mathlib.Core.Bool.{true, false}
 use Prim.Native.Nat.{ℕ}
 use borrow.Author.Tests.{ne_eqb}
 use borrow.Author.Rules.{rules}
-use Rattle.octets.proofs.BoolLaws.{no, holds, fails}
+use Rattle.octets.proofs.BoolLaws.{true_by, false_by, no}
 use Rattle.hash.specs.declared.Hash.TheVariants.{Sha1}
 use Rattle.rules.specs.Profiles.{known}
 use Rattle.rules.proofs.RowLaws.{number_at}
@@ -18,10 +18,10 @@ unfolding known hash_of aes_xts_row rows
 unknown n e = rw (ne_eqb n 3 (λ p. no (sym e ∙ ap (known rows) p)), ne_eqb n 4 (λ p. no (sym e ∙ ap (known rows) p)))
 
 returns : tie.Need-returns-then-not-is_known
-returns c = unknown _ (fails c.is_known.ensures c.if-not-is_known.true)
+returns c = unknown _ (false_by c.is_known.ensures c.if-not-is_known.true)
 
 has_row : (c : tie.Else-not-is_known) → known rows c.args.number ≡ true
-has_row c = holds c.is_known.ensures c.if-not-is_known.false
+has_row c = true_by c.is_known.ensures c.if-not-is_known.false
 
 profile-at-requires : tie.Need-profile_at-p-requires
 profile-at-requires c κs = has_row c

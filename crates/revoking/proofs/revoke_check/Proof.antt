@@ -5,7 +5,7 @@ use mathlib.Core.Bool.{true}
 use native.Mathlib.Omega.{arith}
 use lib.ListN.{take}
 use borrow.Author.Rules.{rules}
-use Rattle.octets.proofs.BoolLaws.{holds, fails}
+use Rattle.octets.proofs.BoolLaws.{true_by, false_by}
 use Rattle.rules.specs.Checks.{Check}
 use Rattle.rules.specs.Calls.{revoke, early_checks, slot_number_ok}
 use Rattle.rules.proofs.ChecksLaws.{Pass, refused_by, all_pass, pass_next}
@@ -36,7 +36,7 @@ abbrev start-5 : tie.Else-not-listed → tie.Start
 start-5 c = start-4 c.before
 
 number_ok : (c : tie.Else-not-slot_number_ok) → slot_number_ok (start-1 c).args.slot ≡ true
-number_ok c = holds c.slot_number_ok.ensures c.if-not-slot_number_ok.false
+number_ok c = true_by c.slot_number_ok.ensures c.if-not-slot_number_ok.false
 
 pass_1 : (c : tie.Else-not-slot_number_ok) → Pass (take 1 (checks (start-1 c)))
 unfolding early_checks
@@ -44,28 +44,28 @@ pass_1 c = (number_ok c, tt)
 
 pass_2 : (c : tie.Else-not-slot_enabled) → Pass (take 2 (checks (start-2 c)))
 unfolding early_checks
-pass_2 c = pass_next (checks (start-2 c)) 1 (pass_1 c.before.before) (holds c.slot_enabled.ensures c.if-not-slot_enabled.false)
+pass_2 c = pass_next (checks (start-2 c)) 1 (pass_1 c.before.before) (true_by c.slot_enabled.ensures c.if-not-slot_enabled.false)
 
 pass_3 : (c : tie.Else-not-another) → Pass (take 3 (checks (start-3 c)))
 unfolding early_checks
-pass_3 c = pass_next (checks (start-3 c)) 2 (pass_2 c.before.before.before.before) (holds c.other_enabled-another.ensures c.if-not-another.false)
+pass_3 c = pass_next (checks (start-3 c)) 2 (pass_2 c.before.before.before.before) (true_by c.other_enabled-another.ensures c.if-not-another.false)
 
 pass_4 : (c : tie.Else-not-fills) → Pass (take 4 (checks (start-4 c)))
 unfolding early_checks
-pass_4 c = pass_next (checks (start-4 c)) 3 (pass_3 c.before) (holds c.filler_ok-fills.ensures c.if-not-fills.false)
+pass_4 c = pass_next (checks (start-4 c)) 3 (pass_3 c.before) (true_by c.filler_ok-fills.ensures c.if-not-fills.false)
 
 -- ---- needs
 
 returns : tie.Need-returns-then-not-slot_number_ok
 unfolding early_checks
-returns c = refused_by _ 0 tt (fails c.slot_number_ok.ensures c.if-not-slot_number_ok.true)
+returns c = refused_by _ 0 tt (false_by c.slot_number_ok.ensures c.if-not-slot_number_ok.true)
 
 slot-enabled-requires : tie.Need-slot_enabled-requires
 slot-enabled-requires c κs = ((start-1 c).requires, number_ok c)
 
 returns-2 : tie.Need-returns-then-not-slot_enabled
 unfolding early_checks
-returns-2 c = refused_by _ 1 (pass_1 c.before.before) (fails c.slot_enabled.ensures c.if-not-slot_enabled.true)
+returns-2 c = refused_by _ 1 (pass_1 c.before.before) (false_by c.slot_enabled.ensures c.if-not-slot_enabled.true)
 
 sub-other-enabled : tie.Need-overflow_sub-slot
 sub-other-enabled c = omega (arith, (number_in (start-2 c).args.slot (number_ok c.before.before)).0)
@@ -84,21 +84,21 @@ list-ok-requires c κs = let p = c.before.before in ((start-2 p).requires, numbe
 
 returns-3 : tie.Need-returns-then-not-another
 unfolding early_checks
-returns-3 c = refused_by _ 2 (pass_2 c.before.before.before.before) (fails c.other_enabled-another.ensures c.if-not-another.true)
+returns-3 c = refused_by _ 2 (pass_2 c.before.before.before.before) (false_by c.other_enabled-another.ensures c.if-not-another.true)
 
 returns-4 : tie.Need-returns-then-not-fills
 unfolding early_checks
-returns-4 c = refused_by _ 3 (pass_3 c.before) (fails c.filler_ok-fills.ensures c.if-not-fills.true)
+returns-4 c = refused_by _ 3 (pass_3 c.before) (false_by c.filler_ok-fills.ensures c.if-not-fills.true)
 
 returns-5 : tie.Need-returns-then-not-listed
 unfolding early_checks
-returns-5 c = refused_by _ 4 (pass_4 c.before) (fails c.list_ok-listed.ensures c.if-not-listed.true)
+returns-5 c = refused_by _ 4 (pass_4 c.before) (false_by c.list_ok-listed.ensures c.if-not-listed.true)
 
 returns-6 : tie.Need-returns
 unfolding early_checks
 returns-6 c =
     let all = checks (start-5 c) in
-    all_pass all (pass_next all 4 (pass_4 c.before) (holds c.list_ok-listed.ensures c.if-not-listed.false))
+    all_pass all (pass_next all 4 (pass_4 c.before) (true_by c.list_ok-listed.ensures c.if-not-listed.false))
 
 pub revoke_check_spec : {M : Type 1} → statement M
 revoke_check_spec =

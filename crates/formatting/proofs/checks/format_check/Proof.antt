@@ -1,4 +1,4 @@
--- `formatting::checks::format_check` meets its contract: what has passed stands as a fact of its place, and each way out is one check that fails behind it.
+-- `formatting::checks::format_check` meets its contract: what has passed stands as a fact of its place, and each way out is one check that false_by behind it.
 use mathlib.Core.Path.{◌≡◌, sym, ap, ◌∙◌}
 use mathlib.Core.List.{List, []}
 use Prim.Native.Nat.{ℕ}
@@ -7,7 +7,7 @@ use lib.Dec.{leb}
 use lib.ListN.{take}
 use borrow.Author.Tests.{leb-true, eq-eqb, ne_eqb, le-leb, lt-leb}
 use borrow.Author.Rules.{rules}
-use Rattle.octets.proofs.BoolLaws.{holds, fails, and_split}
+use Rattle.octets.proofs.BoolLaws.{true_by, false_by, and_split}
 use Rattle.rules.specs.Checks.{Check}
 use Rattle.rules.specs.Profiles.{profile_at}
 use Rattle.rules.specs.Layout.{payload_start}
@@ -53,15 +53,15 @@ row c = c.before.before.before.before.before
 
 passed₁ : (c : tie.Else-not-size_ok) (salt : List ℕ) → Pass (take 1 (checks (start₁ c) salt))
 unfolding format_checks
-passed₁ c salt = (holds c.size_ok.ensures c.if-not-size_ok.false, tt)
+passed₁ c salt = (true_by c.size_ok.ensures c.if-not-size_ok.false, tt)
 
 passed₂ : (c : tie.Else-not-is_known) (salt : List ℕ) → Pass (take 2 (checks (start₂ c) salt))
 unfolding format_checks
-passed₂ c salt = pass_next (checks (start₂ c) salt) 1 (passed₁ c.before.before salt) (holds c.is_known.ensures c.if-not-is_known.false)
+passed₂ c salt = pass_next (checks (start₂ c) salt) 1 (passed₁ c.before.before salt) (true_by c.is_known.ensures c.if-not-is_known.false)
 
 passed₃ : (c : tie.Else-not-stripes_ok) (salt : List ℕ) → Pass (take 3 (checks (start₃ c) salt))
 unfolding format_checks
-passed₃ c salt = pass_next (checks (start₃ c) salt) 2 (passed₂ c.before.before salt) (holds c.stripes_ok.ensures c.if-not-stripes_ok.false)
+passed₃ c salt = pass_next (checks (start₃ c) salt) 2 (passed₂ c.before.before salt) (true_by c.stripes_ok.ensures c.if-not-stripes_ok.false)
 
 passed₄ : (c : tie.Else-key-key_bytes) (salt : List ℕ) → Pass (take 4 (checks (start₄ c) salt))
 unfolding format_checks
@@ -77,7 +77,7 @@ passed₅ c salt =
 
 passed₆ : (c : tie.Else-not-uuid_ok) (salt : List ℕ) → Pass (take 6 (checks (start₆ c) salt))
 unfolding format_checks
-passed₆ c salt = pass_next (checks (start₆ c) salt) 5 (passed₅ c.before.before salt) (holds c.uuid_ok.ensures c.if-not-uuid_ok.false)
+passed₆ c salt = pass_next (checks (start₆ c) salt) 5 (passed₅ c.before.before salt) (true_by c.uuid_ok.ensures c.if-not-uuid_ok.false)
 
 -- the payload's start is that of the rules' row
 payload_is : (c : tie.After-payload_start)
@@ -88,15 +88,15 @@ payload_is c = c.payload_start.ensures.0 ∙ ap (payload_start alignment (start�
 
 returns : tie.Need-returns-then-not-size_ok
 unfolding format_checks
-returns c salt = refused_by _ 0 tt (fails c.size_ok.ensures c.if-not-size_ok.true)
+returns c salt = refused_by _ 0 tt (false_by c.size_ok.ensures c.if-not-size_ok.true)
 
 returns-2 : tie.Need-returns-then-not-is_known
 unfolding format_checks
-returns-2 c salt = refused_by _ 1 (passed₁ c.before.before salt) (fails c.is_known.ensures c.if-not-is_known.true)
+returns-2 c salt = refused_by _ 1 (passed₁ c.before.before salt) (false_by c.is_known.ensures c.if-not-is_known.true)
 
 returns-3 : tie.Need-returns-then-not-stripes_ok
 unfolding format_checks
-returns-3 c salt = refused_by _ 2 (passed₂ c.before.before salt) (fails c.stripes_ok.ensures c.if-not-stripes_ok.true)
+returns-3 c salt = refused_by _ 2 (passed₂ c.before.before salt) (false_by c.stripes_ok.ensures c.if-not-stripes_ok.true)
 
 profile-at-requires : tie.Need-profile_at-p-requires
 unfolding format_checks
@@ -116,7 +116,7 @@ returns-5 c salt =
 
 returns-6 : tie.Need-returns-then-not-uuid_ok
 unfolding format_checks
-returns-6 c salt = refused_by _ 5 (passed₅ c.before.before salt) (fails c.uuid_ok.ensures c.if-not-uuid_ok.true)
+returns-6 c salt = refused_by _ 5 (passed₅ c.before.before salt) (false_by c.uuid_ok.ensures c.if-not-uuid_ok.true)
 
 payload-start-requires : tie.Need-payload_start-requires
 unfolding format_checks

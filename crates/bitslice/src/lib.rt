@@ -1,6 +1,7 @@
 // The S-box of AES and its inverse as Boolean circuits (Boyar and Peralta 2010), on 32 bytes at a time: word i of eight has bit i of
 // each byte. The two share what lies between their linear layers, the inversion. The gates of a layer stand in an order that keeps
 // few values alive.
+// (constant and products are written out, element by element: they are wiring, and no rule over an index says which input a gate has.)
 #![tactic(auto)]
 
 ghost use Rattle.std.specs.Prelude.{◌≡◌};

@@ -1,5 +1,7 @@
 // The calls for C: each wraps one call and has its contract. host/include/mivrozh.h declares them. What a call answers is laid in its last arguments
 // by the functions of `laying`, how many values of HMAC it made in the last one (02, Wish 6).
+// The C interface has no Result, no enum and no struct of the engine's: so each call takes its arguments one by one, a profile by its number, returns
+// 01's number, and has 1 or 0 for a slot's state and arrays side by side for a screen's fields.
 #![tactic(auto)]
 
 ghost use Rattle.rules.specs.Facts.{slot_input};
@@ -9,7 +11,9 @@ ghost use Rattle.rules.specs.Promises.{Does, DoesListed, DoesRead, DoesFormat, F
 ghost use Rattle.profiles.specs.Suites.{built};
 ghost use Rattle.screens.specs.Screens.{slot_screen, detail_screen, Shows, ShowsArrays};
 
+use formatting::FormatInput;
 use header::PayloadUnit;
+use keyslot::SlotInput;
 
 #[unsafe(no_mangle)]
 pub extern "C" fn mivrozh_format(
@@ -25,10 +29,15 @@ pub extern "C" fn mivrozh_format(
     ensures { DoesFormat built (format_input profile stripes key.now salt.now count uuid.now)
         image.old result image.new values.new }
 {
-    laying::lay_values(
-        values,
-        formatting::format(image, profile, stripes, key, salt, count, uuid),
-    )
+    let input = FormatInput {
+        profile,
+        stripes,
+        key,
+        salt,
+        count,
+        uuid,
+    };
+    laying::lay_values(values, formatting::format(image, input))
 }
 
 #[unsafe(no_mangle)]
@@ -47,10 +56,13 @@ pub extern "C" fn mivrozh_add(
         (add slot key.now (slot_input passphrase.now salt.now count random.now) list.old)
         result image.new list.old list.new values.new }
 {
-    laying::lay_values(
-        values,
-        adding::add(image, slot, key, passphrase, salt, count, random, list),
-    )
+    let input = SlotInput {
+        passphrase,
+        salt,
+        count,
+        random,
+    };
+    laying::lay_values(values, adding::add(image, slot, key, input, list))
 }
 
 #[unsafe(no_mangle)]
@@ -96,9 +108,15 @@ pub extern "C" fn mivrozh_change(
         (slot_input new.now salt.now count random.now) filler.now list.old)
         result image.new list.old list.new values.new }
 {
+    let input = SlotInput {
+        passphrase: new,
+        salt,
+        count,
+        random,
+    };
     laying::lay_values(
         values,
-        changing::change(image, from, old, to, new, salt, count, random, filler, list),
+        changing::change(image, from, old, to, input, filler, list),
     )
 }
 
@@ -170,9 +188,11 @@ pub extern "C" fn mivrozh_slot_details(
     ensures { ShowsArrays (detail_screen built image.now)
         result enabled.new counts.new starts.new stripes.new }
 {
-    let s = screens::slot_details(image);
-    let entries = s.entries;
-    let r = s.refusal;
-    laying::lay_entries(enabled, counts, starts, stripes, entries);
-    header::number_of(r)
+    laying::lay_details(
+        enabled,
+        counts,
+        starts,
+        stripes,
+        screens::slot_details(image),
+    )
 }

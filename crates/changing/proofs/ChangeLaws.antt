@@ -1,7 +1,7 @@
 -- Laws for change: what its accepted arguments are, and what it writes: the second slot's writes leave the first slot's place as it was.
 use mathlib.Core.Path.{◌≡◌, refl, sym, ap, ap₂, ◌∙◌}
 use mathlib.Core.List.{List, [], ◌∷◌, ◌++◌}
-use mathlib.Core.Bool.{true, not}
+use mathlib.Core.Bool.{Bool, true, false, ◌&&◌, not}
 use Prim.Native.Nat.{ℕ, ◌+◌, ◌-◌, ◌*◌, ◌≤◌, ◌<◌}
 use native.Mathlib.Decide.{dec_le}
 use native.Mathlib.Omega.{arith}
@@ -29,6 +29,17 @@ use Rattle.header.proofs.SoundLaws.{sound}
 use Rattle.sectors.specs.declared.Area.{Area}
 use Rattle.sectors.specs.Areas.{IsArea, writes_of}
 use Rattle.sectors.proofs.ListLaws.{listed-is, length-list}
+
+-- ---- two tests in one check
+
+pub both-yes : (a b : Bool) → a ≡ true → b ≡ true → (a && b) ≡ true
+both-yes a b e h = rw e h
+
+pub first-no : (a b : Bool) → a ≡ false → (a && b) ≡ false
+first-no a b e = rw e
+
+pub second-no : (a b : Bool) → a ≡ true → b ≡ false → (a && b) ≡ false
+second-no a b e h = rw e h
 
 -- ---- what the early checks assure
 

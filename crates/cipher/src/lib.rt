@@ -4,7 +4,7 @@
 
 ghost use Rattle.std.specs.Prelude.{◌≡◌, List, ℕ, ◌+◌, ◌-◌, ◌*◌, ◌/◌, ◌%◌, ◌<◌, ◌≤◌, length, take, drop};
 ghost use Rattle.octets.specs.Octets.{be32, xors};
-ghost use Rattle.octets.specs.Splice.{part, splice};
+ghost use Rattle.octets.specs.Splice.{part};
 ghost use Rattle.gf256.specs.Field.{xtime};
 ghost use Rattle.aes.specs.Aes.{sub_bytes, inv_sub_bytes, shift_rows, inv_shift_rows, mix_columns, inv_mix_columns, cipher, inv_cipher, rot_word, rcon, temp, next_word, expand};
 ghost use Rattle.aes.specs.Planes.{column, block, state, Sliced};
@@ -14,9 +14,8 @@ ghost use Rattle.aes.specs.Planes.{column, block, state, Sliced};
 
 // The round key k, and a round (5.1) up to its own round key.
 fn round(q: &mut [u32; 128], k: &[u32])
-    requires { (length q.old ≡ 128) × (length k.now ≡ 128) }
-    ensures { (length q.new ≡ 128)
-        × ((j : ℕ) → j < 32 → state j q.new ≡ mix_columns (shift_rows (sub_bytes (xors (state j q.old) (state j k.now))))) }
+    requires { length k.now ≡ 128 }
+    ensures { (j : ℕ) → j < 32 → state j q.new ≡ mix_columns (shift_rows (sub_bytes (xors (state j q.old) (state j k.now)))) }
 {
     planes::shift_rows(q, k);
     planes::sub_bytes(q);
@@ -25,9 +24,9 @@ fn round(q: &mut [u32; 128], k: &[u32])
 
 // The round key k, and the last round (5.1) with the round key l.
 fn last_round(q: &mut [u32; 128], k: &[u32], l: &[u32])
-    requires { (length q.old ≡ 128) × (length k.now ≡ 128) × (length l.now ≡ 128) }
-    ensures { (length q.new ≡ 128) × ((j : ℕ) → j < 32
-        → state j q.new ≡ xors (shift_rows (sub_bytes (xors (state j q.old) (state j k.now)))) (state j l.now)) }
+    requires { (length k.now ≡ 128) × (length l.now ≡ 128) }
+    ensures { (j : ℕ) → j < 32
+        → state j q.new ≡ xors (shift_rows (sub_bytes (xors (state j q.old) (state j k.now)))) (state j l.now) }
 {
     planes::shift_rows(q, k);
     planes::sub_bytes(q);
@@ -36,10 +35,9 @@ fn last_round(q: &mut [u32; 128], k: &[u32], l: &[u32])
 
 // The last round undone (5.3): its round key l, and all up to the round key k before it.
 fn inv_last_round(q: &mut [u32; 128], k: &[u32], l: &[u32])
-    requires { (length q.old ≡ 128) × (length k.now ≡ 128) × (length l.now ≡ 128) }
-    ensures { (length q.new ≡ 128) × ((j : ℕ) → j < 32
-        → state j q.new
-        ≡ xors (inv_sub_bytes (inv_shift_rows (xors (state j q.old) (state j l.now)))) (state j k.now)) }
+    requires { (length k.now ≡ 128) × (length l.now ≡ 128) }
+    ensures { (j : ℕ) → j < 32
+        → state j q.new ≡ xors (inv_sub_bytes (inv_shift_rows (xors (state j q.old) (state j l.now)))) (state j k.now) }
 {
     planes::xor_words(q, l);
     planes::inv_sub_bytes(q);
@@ -48,9 +46,9 @@ fn inv_last_round(q: &mut [u32; 128], k: &[u32], l: &[u32])
 
 // A round undone (5.3) after its round key, and the round key k before it.
 fn inv_round(q: &mut [u32; 128], k: &[u32])
-    requires { (length q.old ≡ 128) × (length k.now ≡ 128) }
-    ensures { (length q.new ≡ 128) × ((j : ℕ) → j < 32
-        → state j q.new ≡ xors (inv_sub_bytes (inv_shift_rows (inv_mix_columns (state j q.old)))) (state j k.now)) }
+    requires { length k.now ≡ 128 }
+    ensures { (j : ℕ) → j < 32
+        → state j q.new ≡ xors (inv_sub_bytes (inv_shift_rows (inv_mix_columns (state j q.old)))) (state j k.now) }
 {
     mixing::inv_mix_columns(q);
     planes::inv_sub_bytes(q);
@@ -58,18 +56,17 @@ fn inv_round(q: &mut [u32; 128], k: &[u32])
 }
 
 // CIPHER (5.1) of each block: n rounds and the last, with the sliced key schedule k.
+// (k and n are apart here and in decrypt_blocks: n is the number of rounds and no length, as k may be longer; the struct that has them with their
+// bound is xts::Schedules, above this crate, and vectors calls with a slice of its own.)
 pub fn encrypt_blocks(q: &mut [u32; 128], k: &[u32], n: usize)
-    requires { (length q.old ≡ 128) × ((n + 2) * 128 ≤ length k.now) }
-    ensures { (length q.new ≡ 128)
-        × ((w : List ℕ) → Sliced (n + 2) w k.now → (b : ℕ) → b < 32 → block b q.new ≡ cipher n w (block b q.old)) }
+    requires { (n + 2) * 128 ≤ length k.now }
+    ensures { (w : List ℕ) → Sliced (n + 2) w k.now → (b : ℕ) → b < 32 → block b q.new ≡ cipher n w (block b q.old) }
 {
     planes::transpose(q);
-    let mut i: usize = 0;
-    while i < n {
+    for i in 0..n {
         let a = i * 128;
         let e = a + 128;
         round(q, &k[a..e]);
-        i += 1;
     }
     let f = n * 128;
     let g = f + 128;
@@ -80,18 +77,15 @@ pub fn encrypt_blocks(q: &mut [u32; 128], k: &[u32], n: usize)
 
 // INVCIPHER (5.3) of each block: the last round undone, and n rounds, with the sliced key schedule k.
 pub fn decrypt_blocks(q: &mut [u32; 128], k: &[u32], n: usize)
-    requires { (length q.old ≡ 128) × ((n + 2) * 128 ≤ length k.now) }
-    ensures { (length q.new ≡ 128)
-        × ((w : List ℕ) → Sliced (n + 2) w k.now → (b : ℕ) → b < 32 → block b q.new ≡ inv_cipher n w (block b q.old)) }
+    requires { (n + 2) * 128 ≤ length k.now }
+    ensures { (w : List ℕ) → Sliced (n + 2) w k.now → (b : ℕ) → b < 32 → block b q.new ≡ inv_cipher n w (block b q.old) }
 {
     planes::transpose(q);
     let f = n * 128;
     let g = f + 128;
     let h = g + 128;
     inv_last_round(q, &k[f..g], &k[g..h]);
-    let mut i = n;
-    while 0 < i {
-        i -= 1;
+    for i in (0..n).rev() {
         let a = i * 128;
         let e = a + 128;
         inv_round(q, &k[a..e]);
@@ -121,6 +115,7 @@ fn rot_word(x: u32) -> u32
 }
 
 // The word of the four bytes of w from index at, the highest first.
+// (octets::be32_at, with the contract that the schedule's laws speak in: the bytes of the word, not its number.)
 fn word_at(w: &[u8], at: usize) -> u32
     requires { at + 4 ≤ length w.now }
     ensures { be32 result ≡ take 4 (drop at w.now) }
@@ -137,6 +132,8 @@ fn double(a: u8) -> u8
 }
 
 // The first byte of the round constant of word i (5.2), constant being that of word i - 1: doubled at each multiple of nk.
+// (nk, i and constant are what expand_key's loop runs on: i is its counter and constant changes with it, so a struct of the three would be built anew
+// at each word. Which word constant belongs to differs: i - 1 here, i below; 4 ≤ nk is about expand_key's own nk, handed on.)
 fn next_constant(constant: u8, nk: usize, i: usize) -> u8
     requires { (4 ≤ nk) × (nk < i) × (constant ≡ rcon ((i - 1) / nk - 1)) }
     ensures { result ≡ rcon (i / nk - 1) }
@@ -154,7 +151,7 @@ fn temp_word(t: u32, nk: usize, i: usize, constant: u8) -> u32
 {
     let p = i % nk;
     if p == 0 {
-        return sub_word(rot_word(t)) ^ octets::be32_of(constant, 0, 0, 0);
+        return sub_word(rot_word(t)) ^ u32::from_be_bytes([constant, 0, 0, 0]);
     }
     if nk <= 6 {
         return t;
@@ -166,6 +163,7 @@ fn temp_word(t: u32, nk: usize, i: usize, constant: u8) -> u32
 }
 
 // Word i of the schedule w (5.2), which has the words before it.
+// (i is the word that is made, as the standard names it; the words behind it are room.)
 fn next_word(w: &[u8], nk: usize, i: usize, constant: u8) -> u32
     requires { (4 ≤ nk) × (nk ≤ i) × (i * 4 ≤ length w.now) × (constant ≡ rcon (i / nk - 1)) }
     ensures { be32 result ≡ next_word nk i w.now }
@@ -174,6 +172,8 @@ fn next_word(w: &[u8], nk: usize, i: usize, constant: u8) -> u32
 }
 
 // KEYEXPANSION (5.2) of a key of 4 to 8 words, at the start of the result.
+// (No heap: the result has room for the longest schedule, and its front counts. The bounds are on a half of a key that the caller owns; what
+// follows from them, xts::Keys carries on.)
 pub fn expand_key(key: &[u8]) -> [u8; 240]
     requires { (16 ≤ length key.now) × (length key.now ≤ 32) × (length key.now % 4 ≡ 0) }
     ensures { take ((length key.now / 4 + 7) * 16) result ≡ expand (length key.now / 4) key.now }
@@ -182,12 +182,10 @@ pub fn expand_key(key: &[u8]) -> [u8; 240]
     octets::copy_into(&mut w, 0, key);
     let nk = key.len() / 4;
     let mut constant: u8 = 1;
-    let mut i = nk;
-    while i < (nk + 7) * 4 {
+    for i in nk..(nk + 7) * 4 {
         let x = octets::be32(next_word(&w, nk, i, constant));
         octets::copy_into(&mut w, i * 4, &x);
-        i += 1;
-        constant = next_constant(constant, nk, i);
+        constant = next_constant(constant, nk, i + 1);
     }
     w
 }
@@ -195,11 +193,12 @@ pub fn expand_key(key: &[u8]) -> [u8; 240]
 // ---- round keys as bit planes
 
 // The column of the four bytes of s from index at.
+// (The four by index, as in octets::be32_at; a call of it stays a call, as its contract is in columns.)
 pub fn column_at(s: &[u8], at: usize) -> u32
     requires { at + 4 ≤ length s.now }
     ensures { column result ≡ take 4 (drop at s.now) }
 {
-    octets::be32_of(s[at + 3], s[at + 2], s[at + 1], s[at])
+    u32::from_le_bytes([s[at], s[at + 1], s[at + 2], s[at + 3]])
 }
 
 // A block in all lanes: that of the 16 bytes of w from index at.
@@ -207,47 +206,32 @@ fn spread(w: &[u8], at: usize) -> [u32; 128]
     requires { at + 16 ≤ length w.now }
     ensures { (j : ℕ) → j < 32 → state j result ≡ part w.now at 16 }
 {
-    let a = column_at(w, at);
-    let b = column_at(w, at + 4);
-    let c = column_at(w, at + 8);
-    let d = column_at(w, at + 12);
+    let columns = [
+        column_at(w, at),
+        column_at(w, at + 4),
+        column_at(w, at + 8),
+        column_at(w, at + 12),
+    ];
     let mut q = [0u32; 128];
-    let mut i: usize = 0;
-    while i < 32 {
-        let k = 4 * i;
-        q[k] = a;
-        q[k + 1] = b;
-        q[k + 2] = c;
-        q[k + 3] = d;
-        i += 1;
+    for v in 0..128 {
+        q[v] = columns[v % 4];
     }
     planes::transpose(&mut q);
     q
 }
 
-// Copies b into d, from index at.
-fn copy_words(d: &mut [u32], at: usize, b: &[u32])
-    requires { at + length b.now ≤ length d.old }
-    ensures { d.new ≡ splice d.old at b.now }
-{
-    let mut i: usize = 0;
-    while i < b.len() {
-        d[at + i] = b[i];
-        i += 1;
-    }
-}
-
 // The first m round keys of the key schedule w, sliced.
+// (m is a number of round keys and no length: w and the result have room for the longest schedule, and their front counts.)
 pub fn slice_keys(w: &[u8], m: usize) -> [u32; 1920]
     requires { (m ≤ 15) × (m * 16 ≤ length w.now) }
     ensures { Sliced m w.now result }
 {
     let mut k = [0u32; 1920];
-    let mut i: usize = 0;
-    while i < m {
+    for i in 0..m {
         let q = spread(w, i * 16);
-        copy_words(&mut k, i * 128, &q);
-        i += 1;
+        let a = i * 128;
+        let e = a + 128;
+        k[a..e].copy_from_slice(&q);
     }
     k
 }

@@ -7,7 +7,7 @@ use native.Mathlib.Nat.{zero-add, add-zero, add-suc, add_comm, suc_inj, add-mul-
 use native.Mathlib.Numerals.{add-one}
 use native.Mathlib.Omega.{arith}
 use lib.ListN.{length, get_or, take, drop, set, length-append, length-drop, take-append-drop, get_or-append}
-use lib.Seq.{take-suc, take-suc-set, take_at, set_split, take-append-le, drop-append-le, take-append-add, drop-drop, take_all, length-take-le}
+use lib.Seq.{take-suc, take-suc-set, take_at, drop_at, set_split, take-append-le, drop-append-le, take-append-add, drop-drop, take_all, length-take-le}
 use Rattle.octets.specs.Octets.{Str, zeros, big_endian, be32_at, be32, xors}
 use Rattle.octets.specs.Splice.{splice}
 use Rattle.octets.proofs.OctetsLaws.{str_cast, str_append, str_big_endian, big_endian-⊕, length-big_endian, length-zeros, zeros-append, xors-append}
@@ -154,11 +154,15 @@ zeros-between k j = rw (add-mul-mod_self_left k 64 j) (omega arith)
 
 module _ (C : Compression) where
   -- a turn of a loop over whole blocks
-  pub blocks_more : (s v u m : List ℕ) (i : ℕ) → v ≡ blocks C s m i → u ≡ compress_block C v (take ((64 * i + 64) - 64 * i) (drop (64 * i) m)) → u ≡ blocks C s m (i + 1)
+  pub blocks_more : (s v u m x r : List ℕ) (i j : ℕ) → j ≡ i + 1 → drop (64 * i) m ≡ x ++ r → length x ≡ 64 → v ≡ blocks C s m i → u ≡ compress_block C v x
+      → (r ≡ drop (64 * j) m) × (u ≡ blocks C s m j)
   unfolding blocks
-  blocks_more s v u m i e p =
-      let n : (64 * i + 64) - 64 * i ≡ 64 = omega arith in
-      p ∙ rw (n, add-one, e)
+  blocks_more s v u m x r i j n e l ev eu =
+      let k : 64 * j ≡ 64 * i + 64 = omega arith in
+      let next : suc i ≡ j = omega arith in (
+        sym (drop_at x r 64 l) ∙ ap (drop 64) (sym e) ∙ drop-drop 64 (64 * i) m ∙ ap (λ (p : ℕ). drop p m) (sym k),
+        eu ∙ ap₂ (compress_block C) ev (sym (take_at x r 64 l) ∙ ap (take 64) (sym e)) ∙ ap (blocks C s m) next,
+      )
 
   -- those that lie in the first part of a list are those of the first part
   blocks-front : (s m p : List ℕ) (k : ℕ) → 64 * k ≤ length m → blocks C s (m ++ p) k ≡ blocks C s m k

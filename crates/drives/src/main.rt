@@ -2,144 +2,96 @@
 // tools/make_drives.sh made them. And one that format made before Wish 4, whose payload begins right after its areas.
 #![tactic(auto)]
 
+ghost use Rattle.std.specs.Prelude.{◌≤◌};
+
 mod payloads;
 
-use slot_trials::{changes, made};
+use reports::{Kind, Tried};
+use slot_trials::changes;
 use std::io;
 use std::rt::Files;
 use trials::{after, damage, openings, shown};
 
-fn as_it_is(rt: &impl Print, image: &[u8], drive: u64, key: &[u8], wrong: &[u8]) -> io::Result<()> {
+fn as_it_is(t: &Tried<'_, impl Print>, image: &[u8]) -> io::Result<()> {
     shown::shows(
-        rt,
-        drive,
+        t,
         b"screens show slots 1, 2, 4 and 8",
         image,
-        &[1, 1, 0, 1, 0, 0, 0, 1],
+        &[true, true, false, true, false, false, false, true],
     )?;
-    openings::filled_slots(rt, drive, image, key)?;
-    openings::wrong_passphrases(rt, drive, image)?;
-    openings::wrong_slots(rt, drive, image)?;
-    payloads::whole(rt, drive, image, key)?;
-    payloads::parts(rt, drive, image, key)?;
-    payloads::refusals(rt, drive, image, key, wrong)
+    openings::filled_slots(t, image)?;
+    openings::wrong_passphrases(t, image)?;
+    openings::wrong_slots(t, image)?;
+    payloads::whole(t, image)?;
+    payloads::parts(t, image)?;
+    payloads::refusals(t, image)
 }
 
-fn damaged(rt: &impl Print, image: &mut [u8], drive: u64) -> io::Result<()> {
-    damage::start_of_header(rt, image, drive)?;
-    damage::names(rt, image, drive)?;
-    damage::numbers(rt, image, drive)
-}
-
-fn damaged_further(rt: &impl Print, image: &mut [u8], drive: u64) -> io::Result<()> {
-    damage::records(rt, image, drive)?;
-    damage::areas(rt, image, drive)?;
-    damage::lengths(rt, image, drive)
-}
-
-fn changed(
-    rt: &impl Print,
-    image: &mut [u8],
-    drive: u64,
-    key: &[u8],
-    wrong: &[u8],
-    filler: &[u8],
-    random: &[u8],
-) -> io::Result<()> {
-    changes::revoking_one(rt, image, drive, filler)?;
-    after::revoking(rt, drive, image, key, filler)?;
+fn changed(t: &Tried<'_, impl Print>, image: &mut [u8], lists: &mut [u8]) -> io::Result<()> {
+    changes::revoking_one(t, image, lists)?;
+    after::revoking(t, image)?;
     shown::shows(
-        rt,
-        drive,
+        t,
         b"screens show slots 1, 4 and 8",
         image,
-        &[1, 0, 0, 1, 0, 0, 0, 1],
+        &[true, false, false, true, false, false, false, true],
     )?;
-    changes::adding_one(rt, image, drive, key, wrong, random)?;
-    after::adding(rt, drive, image, key)?;
+    changes::adding_one(t, image, lists)?;
+    after::adding(t, image)?;
     shown::shows(
-        rt,
-        drive,
+        t,
         b"screens show slots 1, 4, 7 and 8",
         image,
-        &[1, 0, 0, 1, 0, 0, 1, 1],
+        &[true, false, false, true, false, false, true, true],
     )
 }
 
 fn changed_further(
-    rt: &impl Print,
+    t: &Tried<'_, impl Print>,
     image: &mut [u8],
-    drive: u64,
-    key: &[u8],
-    filler: &[u8],
-    random: &[u8],
+    lists: &mut [u8],
 ) -> io::Result<()> {
-    changes::without_a_list(rt, image, drive, key, filler, random)?;
-    changes::leaving_one(rt, image, drive, filler)?;
-    after::leaving(rt, drive, image, key)?;
-    changes::changing_one(rt, image, drive, filler, random)?;
-    after::changing(rt, drive, image, key)?;
+    changes::without_a_list(t, image)?;
+    changes::leaving_one(t, image, lists)?;
+    after::leaving(t, image)?;
+    changes::changing_one(t, image, lists)?;
+    after::changing(t, image)?;
     shown::shows(
-        rt,
-        drive,
+        t,
         b"screens show slot 3",
         image,
-        &[0, 0, 1, 0, 0, 0, 0, 0],
+        &[false, false, true, false, false, false, false, false],
     )
 }
 
 // The payload is as it was before the changes.
-fn written(rt: &impl Print, image: &mut [u8], drive: u64, key: &[u8]) -> io::Result<()> {
-    payloads::whole(rt, drive, image, key)?;
-    payloads::writes(rt, image, drive, key)?;
-    payloads::whole(rt, drive, image, key)
+fn written(t: &Tried<'_, impl Print>, image: &mut [u8]) -> io::Result<()> {
+    payloads::whole(t, image)?;
+    payloads::writes(t, image)?;
+    payloads::whole(t, image)
 }
 
 // Slots and payload, changed and written.
-fn used(
-    rt: &impl Print,
-    image: &mut [u8],
-    drive: u64,
-    key: &[u8],
-    wrong: &[u8],
-    filler: &[u8],
-    random: &[u8],
-) -> io::Result<()> {
-    changed(rt, image, drive, key, wrong, filler, random)?;
-    changed_further(rt, image, drive, key, filler, random)?;
-    written(rt, image, drive, key)
+fn used(t: &Tried<'_, impl Print>, image: &mut [u8], lists: &mut [u8]) -> io::Result<()> {
+    changed(t, image, lists)?;
+    changed_further(t, image, lists)?;
+    written(t, image)
 }
 
-// All that is tried of a drive. The volume key is the bytes 0, 1, 2, ..; the wrong key is as long.
-fn tried(
-    rt: &impl Print,
-    image: &mut [u8],
-    drive: u64,
-    key: &[u8],
-    wrong: &[u8],
-    filler: &[u8],
-    random: &[u8],
-) -> io::Result<()> {
-    as_it_is(rt, image, drive, key, wrong)?;
-    damaged(rt, image, drive)?;
-    damaged_further(rt, image, drive)?;
-    used(rt, image, drive, key, wrong, filler, random)
+// All that is tried of a drive.
+fn tried(t: &Tried<'_, impl Print>, image: &mut [u8], lists: &mut [u8]) -> io::Result<()> {
+    as_it_is(t, image)?;
+    damage::fields(t, image)?;
+    damage::lengths(t, image)?;
+    used(t, image, lists)
 }
 
-// The same without damage, of a drive with the old start: its payload begins where it began, also after all changes.
-fn tried_old(
-    rt: &impl Print,
-    image: &mut [u8],
-    drive: u64,
-    key: &[u8],
-    wrong: &[u8],
-    filler: &[u8],
-    random: &[u8],
-) -> io::Result<()> {
-    as_it_is(rt, image, drive, key, wrong)?;
-    used(rt, image, drive, key, wrong, filler, random)?;
+// The same without damage, of the drive with the old start: its payload begins where it began, also after all changes.
+fn tried_old(t: &Tried<'_, impl Print>, image: &mut [u8], lists: &mut [u8]) -> io::Result<()> {
+    as_it_is(t, image)?;
+    used(t, image, lists)?;
     let start = reports::be32_at(image, 104);
-    reports::line(rt, drive, b"payload start 65 after all this", start == 65)
+    t.line(b"payload start 65 after all this", None, start == 65)
 }
 
 // Fills the key, the wrong key, the filler and the random stripes; modulo 251 no two units are alike.
@@ -150,80 +102,55 @@ fn fill(key: &mut [u8], wrong: &mut [u8], filler: &mut [u8], random: &mut [u8]) 
     testing::sequence(random, 3, 13, 251);
 }
 
-// The file has exactly as many bytes as the image.
-fn loaded(rt: &(impl Files + Print), image: &mut [u8], drive: u64, file: &[u8]) -> io::Result<()> {
-    let n = testing::load(rt, image, file)?;
-    reports::line(rt, drive, b"is read whole", n == image.len())
-}
-
-// The drive of the profile with this number, in the file, with room for the rest.
-fn drive(
-    rt: &(impl Files + Print),
-    image: &mut [u8],
-    key: &mut [u8],
-    wrong: &mut [u8],
-    filler: &mut [u8],
-    random: &mut [u8],
-    profile: u64,
-    file: &[u8],
-) -> io::Result<()> {
-    loaded(rt, image, profile, file)?;
-    fill(key, wrong, filler, random);
-    tried(rt, image, profile, key, wrong, filler, random)
-}
-
-fn drive_256(rt: &(impl Files + Print), profile: u64, file: &[u8]) -> io::Result<()> {
-    let mut image = made::image_256();
-    let mut key = [0u8; 32];
-    let mut wrong = [0u8; 32];
-    let mut filler = made::filler_256();
-    let mut random = made::random_256();
-    drive(
-        rt,
-        &mut image,
-        &mut key,
-        &mut wrong,
-        &mut filler,
-        &mut random,
-        profile,
-        file,
-    )
-}
-
-fn drive_512(rt: &(impl Files + Print), profile: u64, file: &[u8]) -> io::Result<()> {
-    let mut image = made::image_512();
-    let mut key = [0u8; 64];
-    let mut wrong = [0u8; 64];
-    let mut filler = made::filler_512();
-    let mut random = made::random_512();
-    drive(
-        rt,
-        &mut image,
-        &mut key,
-        &mut wrong,
-        &mut filler,
-        &mut random,
-        profile,
-        file,
-    )
-}
-
-// The drive with the old start: 15 stripes of 32 bytes.
-fn drive_start_65(rt: &(impl Files + Print), number: u64, file: &[u8]) -> io::Result<()> {
-    let mut image = made::image_start_65();
-    let mut key = [0u8; 32];
-    let mut wrong = [0u8; 32];
-    let mut filler = [0u8; 480];
-    let mut random = [0u8; 448];
-    loaded(rt, &mut image, number, file)?;
+// The drive in the file, of IMAGE bytes, with keys of KEY bytes, areas of AREA, of which all stripes but the last have RANDOM, and LISTS bytes
+// of room for the lists of two slots. The volume key is the bytes 0, 1, 2, ..
+// (Which steps run is asked of the kind: closures handed in by main would say a second time what the kind says.)
+fn drive<
+    const IMAGE: usize,
+    const KEY: usize,
+    const AREA: usize,
+    const RANDOM: usize,
+    const LISTS: usize,
+>(rt: &(impl Files + Print), kind: Kind, file: &[u8]) -> io::Result<()>
+    requires { (IMAGE ≤ 2072576) × (KEY ≤ 64) × (AREA ≤ 256000) × (RANDOM ≤ 256000) × (LISTS ≤ 518064) }
+{
+    let mut image = [0u8; IMAGE];
+    let mut key = [0u8; KEY];
+    let mut wrong = [0u8; KEY];
+    let mut filler = [0u8; AREA];
+    let mut random = [0u8; RANDOM];
+    let mut lists = [0u8; LISTS];
     fill(&mut key, &mut wrong, &mut filler, &mut random);
-    tried_old(rt, &mut image, number, &key, &wrong, &filler, &random)
+    let t = Tried {
+        rt,
+        kind,
+        key: &key,
+        wrong: &wrong,
+        filler: &filler,
+        random: &random,
+    };
+    let n = testing::load(rt, &mut image, file)?;
+    t.line(b"is read whole", None, n == Some(IMAGE))?;
+    if kind == Kind::OldStart {
+        tried_old(&t, &mut image, &mut lists)
+    } else {
+        tried(&t, &mut image, &mut lists)
+    }
 }
 
+// 4,000 stripes of 32 or 64 bytes, before 8 units of payload; the drive with the old start has 15 of 32.
 fn main(rt: HostRuntime) -> io::Result<()> {
-    drive_256(&rt, 1, b"luks1-256.img")?;
-    drive_512(&rt, 2, b"luks1-512.img")?;
-    drive_256(&rt, 3, b"luks1-sha256-256.img")?;
-    drive_512(&rt, 4, b"luks1-sha256-512.img")?;
-    drive_start_65(&rt, 0, b"luks1-start-65.img")
+    drive::<1056768, 32, 128000, 127968, 260064>(&rt, Kind::Sha1With256, b"luks1-256.img")?;
+    drive::<2072576, 64, 256000, 255936, 518064>(&rt, Kind::Sha1With512, b"luks1-512.img")?;
+    drive::<1056768, 32, 128000, 127968, 260064>(
+        &rt,
+        Kind::Sha256With256,
+        b"luks1-sha256-256.img",
+    )?;
+    drive::<2072576, 64, 256000, 255936, 518064>(
+        &rt,
+        Kind::Sha256With512,
+        b"luks1-sha256-512.img",
+    )?;
+    drive::<37376, 32, 480, 448, 3096>(&rt, Kind::OldStart, b"luks1-start-65.img")
 }

@@ -1,86 +1,54 @@
 // The payload of a drive, whose plaintext is known: byte i is 7 i modulo 251.
-use header::PayloadUnit;
+ghost use Rattle.std.specs.Prelude.{◌≤◌};
+
+use header::{PayloadUnit, Refusal};
+use reports::Tried;
 use std::io;
 
-// Units read into the buffer; their plaintext begins with the byte start.
-fn reads(
-    rt: &impl Print,
-    buffer: &mut [u8],
-    expected: &mut [u8],
-    drive: u64,
-    what: &[u8],
+// Units from first on, as many as N bytes hold; their plaintext begins with the byte start.
+fn reads<const N: usize>(
+    t: &Tried<'_, impl Print>,
     image: &[u8],
-    key: &[u8],
+    what: &[u8],
     first: u64,
-    units: u64,
     start: u8,
-) -> io::Result<()> {
-    testing::sequence(expected, start, 7, 251);
-    let r = payload::read(image, key, PayloadUnit(first), PayloadUnit(units), buffer);
-    let same = octets::equal(buffer, expected);
-    reports::line(rt, drive, what, reports::number_of(r) == 0 && same)
-}
-
-pub fn whole(rt: &impl Print, drive: u64, image: &[u8], key: &[u8]) -> io::Result<()> {
-    let mut buffer = [0u8; 4096];
-    let mut expected = [0u8; 4096];
-    reads(
-        rt,
+) -> io::Result<()>
+    requires { N ≤ 4096 }
+{
+    let mut buffer = [0u8; N];
+    let mut expected = [0u8; N];
+    testing::sequence(&mut expected, start, 7, 251);
+    let units = N as u64 / 512;
+    let r = payload::read(
+        image,
+        t.key,
+        PayloadUnit(first),
+        PayloadUnit(units),
         &mut buffer,
-        &mut expected,
-        drive,
-        b"payload units 0 to 7 read",
-        image,
-        key,
-        0,
-        8,
-        0,
-    )
+    );
+    t.line(what, None, r.is_ok() && buffer == expected)
 }
 
-pub fn parts(rt: &impl Print, drive: u64, image: &[u8], key: &[u8]) -> io::Result<()> {
-    let mut buffer = [0u8; 1024];
-    let mut expected = [0u8; 1024];
-    reads(
-        rt,
-        &mut buffer,
-        &mut expected,
-        drive,
-        b"payload units 3 and 4 read",
-        image,
-        key,
-        3,
-        2,
-        210,
-    )?;
-    let mut last = [0u8; 512];
-    let mut last_expected = [0u8; 512];
-    reads(
-        rt,
-        &mut last,
-        &mut last_expected,
-        drive,
-        b"payload unit 7 read",
-        image,
-        key,
-        7,
-        1,
-        239,
-    )
+pub fn whole(t: &Tried<'_, impl Print>, image: &[u8]) -> io::Result<()> {
+    reads::<4096>(t, image, b"payload units 0 to 7 read", 0, 0)
 }
 
-// A read of units into a buffer of 512 ones that is refused with this number, and leaves the buffer as it was.
+pub fn parts(t: &Tried<'_, impl Print>, image: &[u8]) -> io::Result<()> {
+    reads::<1024>(t, image, b"payload units 3 and 4 read", 3, 210)?;
+    reads::<512>(t, image, b"payload unit 7 read", 7, 239)
+}
+
+// A read of units into a buffer of 512 ones that is refused for this, and leaves the buffer as it was.
+// (The arguments are those of payload::read.)
 fn refused(
-    rt: &impl Print,
-    drive: u64,
-    what: &[u8],
+    t: &Tried<'_, impl Print>,
     image: &[u8],
+    what: &[u8],
     key: &[u8],
     first: u64,
     units: u64,
-    number: u8,
+    refusal: Refusal,
 ) -> io::Result<()> {
-    let ones = [1u8; 512];
     let mut buffer = [1u8; 512];
     let r = payload::read(
         image,
@@ -89,92 +57,81 @@ fn refused(
         PayloadUnit(units),
         &mut buffer,
     );
-    let same = octets::equal(&buffer, &ones);
-    reports::line(rt, drive, what, reports::number_of(r) == number && same)
-}
-
-// Units past the payload's end, and more than the buffer holds.
-fn refused_units(rt: &impl Print, drive: u64, image: &[u8], key: &[u8]) -> io::Result<()> {
-    refused(
-        rt,
-        drive,
-        b"a read past the payload's end (19)",
-        image,
-        key,
-        8,
-        1,
-        19,
-    )?;
-    refused(
-        rt,
-        drive,
-        b"a read of two units into one (20)",
-        image,
-        key,
-        0,
-        2,
-        20,
+    t.line(
+        what,
+        Some(refusal),
+        reports::refusal_of(r) == Some(refusal) && buffer == [1; 512],
     )
 }
 
-// The wrong key has the volume key's length.
-pub fn refusals(
-    rt: &impl Print,
-    drive: u64,
-    image: &[u8],
-    key: &[u8],
-    wrong: &[u8],
-) -> io::Result<()> {
+// Under a short key; of units past the payload's end, and of more than the buffer holds; and under a wrong key of the volume key's length.
+pub fn refusals(t: &Tried<'_, impl Print>, image: &[u8]) -> io::Result<()> {
+    let key = t.key;
     refused(
-        rt,
-        drive,
-        b"a read under a short key (9)",
+        t,
         image,
+        b"a read under a short key",
         b"key",
         0,
         1,
-        9,
+        Refusal::KeyLength,
     )?;
-    refused_units(rt, drive, image, key)?;
     refused(
-        rt,
-        drive,
-        b"a read under a wrong key (17)",
+        t,
         image,
-        wrong,
+        b"a read past the payload's end",
+        key,
+        8,
+        1,
+        Refusal::BadRange,
+    )?;
+    refused(
+        t,
+        image,
+        b"a read of two units into one",
+        key,
+        0,
+        2,
+        Refusal::BadBuffer,
+    )?;
+    refused(
+        t,
+        image,
+        b"a read under a wrong key",
+        t.wrong,
         0,
         1,
-        17,
+        Refusal::WrongKey,
     )
 }
 
-// The numbers of a read and of a write of unit 5.
-fn read_unit(buffer: &mut [u8], image: &[u8], key: &[u8]) -> u8 {
-    reports::number_of(payload::read(image, key, PayloadUnit(5), PayloadUnit(1), buffer))
+// Is unit 5 read, or written?
+fn read_unit(buffer: &mut [u8], image: &[u8], key: &[u8]) -> bool {
+    payload::read(image, key, PayloadUnit(5), PayloadUnit(1), buffer).is_ok()
 }
 
-fn write_unit(image: &mut [u8], key: &[u8], plaintext: &[u8]) -> u8 {
-    reports::number_of(payload::write(image, key, PayloadUnit(5), PayloadUnit(1), plaintext))
+fn write_unit(image: &mut [u8], key: &[u8], plaintext: &[u8]) -> bool {
+    payload::write(image, key, PayloadUnit(5), PayloadUnit(1), plaintext).is_ok()
 }
 
 // Is the plaintext written to unit 5, and read back?
-fn holds(image: &mut [u8], key: &[u8], plaintext: &[u8]) -> bool {
+fn holds(image: &mut [u8], key: &[u8], plaintext: &[u8; 512]) -> bool {
     let mut back = [0u8; 512];
     let written = write_unit(image, key, plaintext);
     let read = read_unit(&mut back, image, key);
-    written == 0 && read == 0 && octets::equal(&back, plaintext)
+    written && read && back == *plaintext
 }
 
 // Unit 5 written and read back; then its old plaintext is written again, and the image is as it was there.
-pub fn writes(rt: &impl Print, image: &mut [u8], drive: u64, key: &[u8]) -> io::Result<()> {
+pub fn writes(t: &Tried<'_, impl Print>, image: &mut [u8]) -> io::Result<()> {
+    let key = t.key;
     let mut old = [0u8; 512];
     let read = read_unit(&mut old, image, key);
     let written = holds(image, key, &[0x5A; 512]);
     let restored = holds(image, key, &old);
-    reports::line(
-        rt,
-        drive,
+    t.line(
         b"payload unit 5 written, read back, and restored",
-        read == 0 && written && restored,
+        None,
+        read && written && restored,
     )
 }

@@ -9,34 +9,34 @@ ghost use Rattle.rules.specs.Header.{magic, version};
 ghost use Rattle.rules.specs.Format.{slot_record};
 ghost use Rattle.profiles.specs.Suites.{alignment};
 
-use header::offsets;
+use crate::FormatInput;
+use header::head::record_at;
+use header::layout::Layout;
+use header::{SlotState, offsets};
 use profiles::Profile;
 
 // Magic, version and the three names.
-pub fn put_names(h: &mut [u8], p: Profile)
-    requires { length h.old ≡ 592 }
+pub fn put_names(h: &mut [u8; 592], p: Profile)
     ensures { h.new ≡ splice h.old 0 (flatten (magic ∷ version ∷ p.cipher ∷ p.mode ∷ p.hash ∷ [])) }
 {
-    let cipher = p.cipher;
-    let mode = p.mode;
-    let hash = p.hash;
     octets::copy_into(h, offsets::MAGIC, &header::LUKS_MAGIC);
     octets::copy_into(h, offsets::VERSION, &header::VERSION_1);
-    octets::copy_into(h, offsets::CIPHER, &cipher);
-    octets::copy_into(h, offsets::MODE, &mode);
-    octets::copy_into(h, offsets::HASH, &hash);
+    octets::copy_into(h, offsets::CIPHER, &p.cipher);
+    octets::copy_into(h, offsets::MODE, &p.mode);
+    octets::copy_into(h, offsets::HASH, &p.hash);
 }
 
 // A number of four bytes.
+// (For six fields: octets has the bytes and the copy, and each field would be a call in a call.)
 fn put_be32(h: &mut [u8], at: usize, x: u32)
     requires { at + 4 ≤ length h.old }
     ensures { h.new ≡ splice h.old at (be32 x) }
 {
-    let b = octets::be32(x);
-    octets::copy_into(h, at, &b);
+    octets::copy_into(h, at, &octets::be32(x));
 }
 
 // The UUID, padded with zeros.
+// (As hmac's zero_pad: one for any length would be public in octets and ask a bound of it, for these three lines.)
 fn uuid_field(uuid: &[u8]) -> [u8; 40]
     requires { length uuid.now ≤ 40 }
     ensures { result ≡ padded 40 uuid.now }
@@ -47,54 +47,38 @@ fn uuid_field(uuid: &[u8]) -> [u8; 40]
 }
 
 // Payload start, key bytes, checksum with its salt and count, and the UUID.
-pub fn put_numbers(
-    h: &mut [u8],
-    stripes: u32,
-    key_bytes: u32,
-    sum: &[u8; 20],
-    salt: &[u8; 32],
-    count: u32,
-    uuid: &[u8],
-)
-    requires { (length h.old ≡ 592) × (stripes ≤ 4000) × (key_bytes ≤ 64) × (length uuid.now ≡ 36) }
-    ensures { h.new ≡ splice h.old 104 (flatten (be32 (payload_start alignment stripes key_bytes) ∷ be32 key_bytes
-        ∷ sum.now ∷ salt.now ∷ be32 count ∷ padded 40 uuid.now ∷ [])) }
+pub fn put_numbers(h: &mut [u8; 592], layout: Layout, input: FormatInput<'_>, sum: &[u8; 20])
+    requires { length input.uuid.now ≡ 36 }
+    ensures { h.new ≡ splice h.old 104 (flatten (be32 (payload_start alignment layout.stripes layout.key_bytes) ∷ be32 layout.key_bytes
+        ∷ sum.now ∷ input.entry.salt.now ∷ be32 input.entry.count ∷ padded 40 input.entry.uuid.now ∷ [])) }
 {
-    let field = uuid_field(uuid);
-    let payload = header::layout::payload_start(stripes, key_bytes);
-    put_be32(h, offsets::PAYLOAD_START, payload.0);
-    put_be32(h, offsets::KEY_BYTES, key_bytes);
+    put_be32(h, offsets::PAYLOAD_START, layout.payload_start().0);
+    put_be32(h, offsets::KEY_BYTES, layout.key_bytes);
     octets::copy_into(h, offsets::CHECKSUM, sum);
+    // (A local, as in header_of.)
+    let salt = input.salt;
     octets::copy_into(h, offsets::CHECKSUM_SALT, salt);
-    put_be32(h, offsets::CHECKSUM_COUNT, count);
-    octets::copy_into(h, offsets::UUID, &field);
+    put_be32(h, offsets::CHECKSUM_COUNT, input.count);
+    octets::copy_into(h, offsets::UUID, &uuid_field(input.uuid));
 }
 
 // The record of slot k, from 0, of a new drive: disabled, count and salt zero.
-fn slot_record(stripes: u32, key_bytes: u32, k: usize) -> [u8; 48]
-    requires { (stripes ≤ 4000) × (key_bytes ≤ 64) × (k < 8) }
-    ensures { result ≡ slot_record stripes key_bytes disabled 0 (zeros 32) k }
+fn slot_record(layout: Layout, k: usize) -> [u8; 48]
+    requires { k < 8 }
+    ensures { result ≡ slot_record layout.stripes layout.key_bytes disabled 0 (zeros 32) k }
 {
     let mut bytes = [0u8; 48];
-    put_be32(&mut bytes, 0, header::DISABLED);
-    put_be32(
-        &mut bytes,
-        offsets::AREA_START,
-        header::layout::area_start(stripes, key_bytes, k).0,
-    );
-    put_be32(&mut bytes, offsets::STRIPES, stripes);
+    put_be32(&mut bytes, 0, SlotState::Disabled.number());
+    put_be32(&mut bytes, offsets::AREA_START, layout.area_start(k).0);
+    put_be32(&mut bytes, offsets::STRIPES, layout.stripes);
     bytes
 }
 
 // The eight slots' records.
-pub fn put_slots(h: &mut [u8], stripes: u32, key_bytes: u32)
-    requires { (length h.old ≡ 592) × (stripes ≤ 4000) × (key_bytes ≤ 64) }
-    ensures { h.new ≡ splice h.old 208 (flatten (map (slot_record stripes key_bytes disabled 0 (zeros 32)) slots)) }
+pub fn put_slots(h: &mut [u8; 592], layout: Layout)
+    ensures { h.new ≡ splice h.old 208 (flatten (map (slot_record layout.stripes layout.key_bytes disabled 0 (zeros 32)) slots)) }
 {
-    let mut k: usize = 0;
-    while k < 8 {
-        let bytes = slot_record(stripes, key_bytes, k);
-        octets::copy_into(h, header::facts::record_at(k), &bytes);
-        k += 1;
+    for k in 0..8 {
+        octets::copy_into(h, record_at(k), &slot_record(layout, k));
     }
 }

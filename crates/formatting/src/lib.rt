@@ -5,93 +5,72 @@
 mod checks;
 mod fields;
 
-ghost use Rattle.std.specs.Prelude.{◌≡◌, true, ◌≤◌, length};
+ghost use Rattle.std.specs.Prelude.{◌≡◌, ◌≤◌, length};
 ghost use Rattle.rules.specs.Checks.{first};
-ghost use Rattle.rules.specs.Profiles.{known};
-ghost use Rattle.rules.specs.Format.{format_input, format_checks, header_of, formatted};
+ghost use Rattle.rules.specs.Format.{format_checks, header_of, formatted};
 ghost use Rattle.rules.specs.Promises.{DoesFormat};
-ghost use Rattle.profiles.specs.Rows.{rows};
+ghost use Rattle.profiles.specs.Records.{IsRow};
 ghost use Rattle.profiles.specs.Suites.{built};
-ghost use Rattle.header.specs.Refusals.{number};
+ghost use Rattle.header.specs.Refusals.{answered, values_of};
+ghost use Rattle.formatting.specs.Inputs.{input_of};
 
-use header::Outcome;
+use header::Refused;
+use header::layout::Layout;
+use hmac::Counted;
+use profiles::Profile;
 
-// The header of a new drive, and how many values of HMAC were made for it.
+// What format is asked for: the profile's number, the stripes of each slot, the key and its checksum's salt and count, and the UUID.
+// (The profile is 01's number, as C hands it over: one that the table hasn't is refusal 7, in its turn among the checks.)
 #[derive(Clone, Copy)]
-struct NewHeader {
-    bytes: [u8; 592],
-    made: u64,
+pub struct FormatInput<'a> {
+    pub profile: u8,
+    pub stripes: u32,
+    pub key: &'a [u8],
+    pub salt: &'a [u8; 32],
+    pub count: u32,
+    pub uuid: &'a [u8],
 }
 
-// The header of a new drive.
-fn header_of(
-    profile: u8,
-    stripes: u32,
-    key: &[u8],
-    salt: &[u8; 32],
-    count: u32,
-    uuid: &[u8],
-) -> NewHeader
-    requires { (known rows profile ≡ true) × (stripes ≤ 4000) × (length key.now ≤ 64) × (1 ≤ count) × (length uuid.now ≡ 36) }
-    ensures { (result.bytes ≡ header_of built (format_input profile stripes key.now salt.now count uuid.now))
-        × (result.made ≡ (built.suite_of profile).made count 20) }
+// The header of a new drive with this profile and layout, and how many values of HMAC were made for it.
+fn header_of(p: Profile, layout: Layout, input: FormatInput<'_>) -> Counted<[u8; 592]>
+    requires row { IsRow input.profile p }
+    requires layout { (layout.stripes ≡ input.stripes) × (layout.key_bytes ≡ p.key_bytes) }
+    requires fits { (length input.key.now ≤ 64) × (1 ≤ input.count) × (length input.uuid.now ≡ 36) }
+    ensures { (result.value ≡ header_of built (input_of input.entry)) × (result.made ≡ (built.suite_of input.entry.profile).made input.entry.count 20) }
 {
-    let p = profiles::profile_at(profile);
-    let hash = profiles::hash_of(profile);
     let mut sum = [0u8; 20];
-    let made = pbkdf2::pbkdf2(&mut sum, hash, key, salt, count);
+    // (A local: the check makes a slice of a field's &[u8; 32] only so.)
+    let salt = input.salt;
+    let made = pbkdf2::pbkdf2(&mut sum, p.digest, input.key, salt, input.count);
     let mut h = [0u8; 592];
     crate::fields::put_names(&mut h, p);
-    crate::fields::put_numbers(&mut h, stripes, p.key_bytes, &sum, salt, count, uuid);
-    crate::fields::put_slots(&mut h, stripes, p.key_bytes);
-    NewHeader { bytes: h, made }
+    crate::fields::put_numbers(&mut h, layout, input, &sum);
+    crate::fields::put_slots(&mut h, layout);
+    Counted { value: h, made }
 }
 
 // Clears everything before the payload, then writes the header. How many values of HMAC were made.
-fn write_drive(
-    image: &mut [u8],
-    profile: u8,
-    stripes: u32,
-    key: &[u8],
-    salt: &[u8; 32],
-    count: u32,
-    uuid: &[u8],
-) -> u64
-    requires { first (format_checks built (format_input profile stripes key.now salt.now count uuid.now) image.old) ≡ 0 }
-    ensures { (image.new ≡ formatted built
-        (format_input profile stripes key.now salt.now count uuid.now) image.old)
-        × (result ≡ (built.suite_of profile).made count 20) }
+fn write_drive(image: &mut [u8], p: Profile, input: FormatInput<'_>) -> u64
+    requires row { IsRow input.profile p }
+    requires accepted { first (format_checks built (input_of input) image.old) ≡ 0 }
+    ensures { (image.new ≡ formatted built (input_of input.entry) image.old) × (result ≡ (built.suite_of input.entry.profile).made input.entry.count 20) }
 {
-    let payload = header::layout::payload_start(stripes, key.len() as u32);
-    let end = payload.0 as usize * 512;
+    let layout = Layout {
+        stripes: input.stripes,
+        key_bytes: p.key_bytes,
+    };
+    let end = layout.payload_start().0 as usize * 512;
     octets::clear(&mut image[..end]);
-    let h = header_of(profile, stripes, key, salt, count, uuid);
-    let bytes = h.bytes;
-    octets::copy_into(image, 0, &bytes);
-    h.made
+    let header = header_of(p, layout, input);
+    octets::copy_into(image, 0, &header.value);
+    header.made
 }
 
 // Formats an image: a drive with this key and eight disabled slots, whose payload keeps its bytes.
 // The contract rules out a format that accepts and writes nothing, one that turns all away, and one that is refused and yet has a cost.
-pub fn format(
-    image: &mut [u8],
-    profile: u8,
-    stripes: u32,
-    key: &[u8],
-    salt: &[u8; 32],
-    count: u32,
-    uuid: &[u8],
-) -> Outcome
-    ensures { DoesFormat built (format_input profile stripes key.now salt.now count uuid.now)
-        image.old (number result.refusal) image.new result.values }
+pub fn format(image: &mut [u8], input: FormatInput<'_>) -> Result<u64, Refused>
+    ensures { DoesFormat built (input_of input.entry) image.old (answered result) image.new (values_of result) }
 {
-    let r = crate::checks::format_check(image, profile, stripes, key, count, uuid);
-    if header::number_of(r) != 0 {
-        return Outcome {
-            refusal: r,
-            values: 0,
-        };
-    }
-    let values = write_drive(image, profile, stripes, key, salt, count, uuid);
-    Outcome { refusal: r, values }
+    let p = crate::checks::format_check(image, input)?;
+    Ok(write_drive(image, p, input))
 }

@@ -14,13 +14,23 @@ use hash::Hash;
 const BLOCK_BYTES: usize = 64;
 
 // The chaining words after the inner and the outer key block.
+// (Eight words each, and digests in 32 bytes, of which the front counts with SHA-1: 01's arrays by value, as in hash.)
 #[derive(Clone, Copy)]
 pub struct Keyed {
     pub inner: [u32; 8],
     pub outer: [u32; 8],
 }
 
+// A value, and how many values of HMAC were made for it (02, Wish 6).
+#[derive(Clone, Copy)]
+pub struct Counted<T> {
+    pub value: T,
+    pub made: u64,
+}
+
 // The bytes of t, and zeros.
+// (Like formatting's uuid_field, at another length: each is a copy into zeros, and one over both, in octets, would be another public promise
+// for two calls. The bound is on a slice that the caller owns, a digest or a key of at most a block.)
 fn zero_pad(t: &[u8]) -> [u8; 64]
     requires { length t.now ≤ 64 }
     ensures { result ≡ padded 64 t.now }
@@ -36,9 +46,7 @@ fn key_block(hash: Hash, key: &[u8]) -> [u8; 64]
     ensures { result ≡ key_block (digest_of hash) key.now }
 {
     if BLOCK_BYTES < key.len() {
-        let h = hash::digest(hash, key);
-        let d = hash::size(hash);
-        zero_pad(&h[..d])
+        zero_pad(&hash::digest(hash, key)[..hash::size(hash)])
     } else {
         zero_pad(key)
     }
@@ -55,18 +63,21 @@ fn after_block(hash: Hash, b: [u8; 64], p: u8) -> [u32; 8]
 }
 
 // The work on the key that all its messages share.
+#[tactic(auto, unfolding(crate::specs::Keyed::keyed, crate::specs::Hmac::xor_pad))]
 pub fn prepare(hash: Hash, key: &[u8]) -> Keyed
     requires { length key.now < 2 ^ 61 }
     ensures { (chain hash result.inner ≡ keyed (compression_of hash) 0x36 key.now)
         × (chain hash result.outer ≡ keyed (compression_of hash) 0x5c key.now) }
 {
     let b = key_block(hash, key);
-    let i = after_block(hash, b, 0x36);
-    let o = after_block(hash, b, 0x5c);
-    Keyed { inner: i, outer: o }
+    Keyed {
+        inner: after_block(hash, b, 0x36),
+        outer: after_block(hash, b, 0x5c),
+    }
 }
 
 // The digest of a key block and m, at the front of 32 bytes, from the chaining words s after the block.
+// (The bound is RFC 2104's message behind a key block, on a slice that hmac's caller owns: a type for it would be built there for one call.)
 fn finish_keyed(hash: Hash, s: [u32; 8], m: &[u8]) -> [u8; 32]
     requires { 64 + length m.now < 2 ^ 61 }
     ensures { take (digest_of hash).size result ≡ finish_keyed (compression_of hash) (chain hash s) m.now }
@@ -80,11 +91,8 @@ fn hmac_with(hash: Hash, k: Keyed, m: &[u8]) -> [u8; 32]
     ensures { take (digest_of hash).size result
         ≡ finish_keyed (compression_of hash) (chain hash k.outer) (finish_keyed (compression_of hash) (chain hash k.inner) m.now) }
 {
-    let i = k.inner;
-    let o = k.outer;
-    let h = finish_keyed(hash, i, m);
-    let d = hash::size(hash);
-    finish_keyed(hash, o, &h[..d])
+    let h = finish_keyed(hash, k.inner, m);
+    finish_keyed(hash, k.outer, &h[..hash::size(hash)])
 }
 
 // The HMAC of m under the key, at the front of 32 bytes.

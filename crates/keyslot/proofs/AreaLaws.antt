@@ -1,11 +1,11 @@
 -- Laws of an area: what filling and the candidate come to, lengths, and merging group by group over any diffusion function.
 use mathlib.Core.Path.{◌≡◌, refl, sym, ap, ap₂, ◌∙◌}
-use mathlib.Core.List.{List, ◌++◌}
-use Prim.Native.Nat.{ℕ, zero, suc, ◌+◌, ◌-◌, ◌*◌, ◌/◌, ◌%◌, ◌<◌, ◌≤◌}
-use native.Mathlib.Nat.{mul-le-mul_right, mul_assoc}
+use mathlib.Core.List.{List}
+use Prim.Native.Nat.{ℕ, zero, suc, ◌+◌, ◌-◌, ◌*◌, ◌<◌, ◌≤◌}
+use native.Mathlib.Nat.{mul-le-mul_right}
 use native.Mathlib.Omega.{arith}
 use lib.ListN.{length, take, drop, length-drop}
-use lib.Seq.{take_all, take_at, drop-drop}
+use lib.Seq.{take_all, drop-drop}
 use Rattle.digest.specs.Digest.{Digest}
 use Rattle.pbkdf2.specs.Pbkdf2.{pbkdf2}
 use Rattle.suite.specs.Split.{running, split, merge_from, merge}
@@ -17,18 +17,9 @@ use Rattle.xts.proofs.UnitLaws.{units_split}
 use Rattle.rules.specs.Facts.{slot_input, key_material, candidate_of}
 use Rattle.profiles.specs.Suites.{aes_xts}
 
--- ---- the front of a buffer that was lent to a call, y
-
-front-is : (n : ℕ) (y r q : List ℕ) → length y ≡ n → y ≡ q → take n (y ++ r) ≡ q
-front-is n y r q l e = take_at y r n l ∙ e
+-- ---- the two calls, over any digest
 
 module _ (H : Digest) where
-  -- the slot key in it
-  pub slot-key-is : (passphrase salt : List ℕ) (count n : ℕ) (x y r : List ℕ) → length x ≡ n → length y ≡ n → y ≡ pbkdf2 H passphrase salt count (length x)
-      → take n (y ++ r) ≡ pbkdf2 H passphrase salt count n
-  slot-key-is passphrase salt count n x y r lx ly e = front-is n y r (pbkdf2 H passphrase salt count n) ly (e ∙ ap (pbkdf2 H passphrase salt count) lx)
-
-  -- the two calls
   pub key_material-is : (L n count : ℕ) (key passphrase salt random a₁ a₂ k : List ℕ) → a₁ ≡ split (diffuse H) L n random key
       → k ≡ pbkdf2 H passphrase salt count L → a₂ ≡ in_units (xts_encrypt k) 0 a₁
       → a₂ ≡ key_material (aes_xts H) L n key (slot_input passphrase salt count random)
@@ -42,16 +33,6 @@ module _ (H : Digest) where
   unfolding candidate_of aes_xts
   candidate_of-is L n count passphrase salt area d k f ek ef e =
       e ∙ ap (λ (g : ℕ → List ℕ → List ℕ). merge (diffuse H) L n (in_units g 0 area)) (ef ∙ ap xts_decrypt ek)
-
--- ---- lengths
-
--- stripes of whole blocks are whole blocks
-pub whole-blocks : (n L x : ℕ) → n * L ≡ x → L % 32 ≡ 0 → x % 16 ≡ 0
-whole-blocks n L x e h =
-    let a : L ≡ L / 32 * 32 = omega arith in
-    let b : n * (L / 32 * 32) ≡ n * (L / 32) * 32 = sym (mul_assoc n (L / 32) 32) in
-    let c : x ≡ n * (L / 32) * 32 = sym e ∙ ap (λ (k : ℕ). n * k) a ∙ b in
-    omega (arith, c)
 
 -- ---- how many stripes are left, where a group holds per of them
 

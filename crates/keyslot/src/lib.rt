@@ -4,36 +4,44 @@
 ghost use Rattle.std.specs.Prelude.{◌≡◌, false, List, ℕ, ◌+◌, ◌-◌, ◌*◌, ◌%◌, ◌≤◌, ◌<◌, ◌^◌, length, take};
 ghost use Rattle.hash.specs.Hash.{digest_of};
 ghost use Rattle.pbkdf2.specs.Pbkdf2.{pbkdf2, values_made};
-ghost use Rattle.suite.specs.Split.{running, merge_from, merge};
+ghost use Rattle.suite.specs.Split.{merge};
 ghost use Rattle.suite.specs.Units.{in_units};
 ghost use Rattle.splitter.specs.Diffuse.{diffuse};
 ghost use Rattle.aes.specs.Planes.{Sliced};
-ghost use Rattle.xts.specs.Keys.{Ready, Under, unit_decrypt};
+ghost use Rattle.xts.specs.Keys.{Under, unit_decrypt};
 ghost use Rattle.rules.specs.Facts.{slot_input, key_material, candidate_of};
 ghost use Rattle.profiles.specs.Suites.{aes_xts};
 
 use hash::Hash;
-use xts::Keys;
+use hmac::Counted;
+use xts::{Keys, Schedules};
 
-// The key that a passphrase gives, at the front of the bytes, and how many values of HMAC were made for it.
+// What a key slot is filled with: the passphrase, the salt and the count of its derivation, and the random stripes
+// (the rules' slot_input).
 #[derive(Clone, Copy)]
-struct Derived {
-    key: [u8; 64],
-    made: u64,
+pub struct SlotInput<'a> {
+    pub passphrase: &'a [u8],
+    pub salt: &'a [u8; 32],
+    pub count: u32,
+    pub random: &'a [u8],
 }
 
-// The key of l bytes that a passphrase gives.
-fn slot_key(hash: Hash, passphrase: &[u8], salt: &[u8], count: u32, l: usize) -> Derived
+// The key of l bytes that a passphrase gives, at the front of the bytes.
+// (No heap: 64 bytes are room for the longest key of a profile; l is the profile's.)
+fn slot_key(hash: Hash, passphrase: &[u8], salt: &[u8], count: u32, l: usize) -> Counted<[u8; 64]>
     requires { (l ≤ 64) × (1 ≤ count) × (length passphrase.now < 2 ^ 61) × (length salt.now < 2 ^ 60) }
-    ensures { (take l result.key ≡ pbkdf2 (digest_of hash) passphrase.now salt.now count l)
+    ensures { (take l result.value ≡ pbkdf2 (digest_of hash) passphrase.now salt.now count l)
         × (result.made ≡ values_made (digest_of hash).size count l) }
 {
-    let mut key = [0u8; 64];
-    let made = pbkdf2::pbkdf2(&mut key[..l], hash, passphrase, salt, count);
-    Derived { key, made }
+    let mut value = [0u8; 64];
+    let made = pbkdf2::pbkdf2(&mut value[..l], hash, passphrase, salt, count);
+    Counted { value, made }
 }
 
 // Fills an area of n stripes: the key is split into it and enciphered there.
+// (n is a profile's number of stripes, which the rules' key_material and candidate_of speak of, here and in all below down to candidate; a quotient of
+// two lengths in its place would be a law more and no plainer. How area, key and n go together: see merge_groups.)
+// (The arguments stay one by one: a salt of any length is what fill promised; SlotInput has the header's 32 bytes.)
 pub fn fill(
     area: &mut [u8],
     hash: Hash,
@@ -54,61 +62,18 @@ pub fn fill(
     let l = key.len();
     splitter::split_into(area, hash, key, random, n);
     let d = slot_key(hash, passphrase, salt, count, l);
-    let k = d.key;
-    xts::encrypt_all(area, 0, &k[..l]);
+    xts::encrypt_all(area, 0, &d.value[..l]);
     d.made
 }
 
-// The data units of a group, numbered from u, deciphered into b under the sliced key schedules ks of the blocks and vs of the tweaks.
-fn decipher(b: &mut [u8], group: &[u8], u: u64, ks: &[u32], vs: &[u32], n: usize)
-    requires { (length b.old ≡ length group.now) × (length group.now % 16 ≡ 0) × (u + length group.now < 2 ^ 64)
-        × ((n + 2) * 128 ≤ length ks.now) × ((n + 2) * 128 ≤ length vs.now) }
-    ensures { (f : ℕ → List ℕ → List ℕ) → Under false n ks.now vs.now f → b.new ≡ in_units f u group.now }
+// The data units of a group, numbered from u, deciphered into b.
+fn decipher(b: &mut [u8], group: &[u8], u: u64, keys: Schedules<'_>)
+    requires { (length b.old ≡ length group.now) × (length group.now % 16 ≡ 0) × (u + length group.now < 2 ^ 64) }
+    ensures { (f : ℕ → List ℕ → List ℕ) → Under false keys.entry.rounds keys.entry.blocks.now keys.entry.tweaks.now f
+        → b.new ≡ in_units f u group.now }
 {
-    octets::copy_into(b, 0, group);
-    xts::decrypt_sliced(b, u, ks, vs, n);
-}
-
-// A group that the last stripe is not in, deciphered into b: its m stripes on the running block d.
-fn whole_group(
-    d: &mut [u8],
-    b: &mut [u8],
-    hash: Hash,
-    group: &[u8],
-    u: u64,
-    ks: &[u32],
-    vs: &[u32],
-    n: usize,
-    m: usize,
-)
-    requires { (length b.old ≡ length group.now) × (length group.now % 16 ≡ 0) × (u + length group.now < 2 ^ 64) × ((n + 2) * 128 ≤ length ks.now)
-        × ((n + 2) * 128 ≤ length vs.now) × (length group.now ≡ m * length d.old) × (length d.old ≤ 64) }
-    ensures { (f : ℕ → List ℕ → List ℕ) → Under false n ks.now vs.now f
-        → d.new ≡ running (diffuse (digest_of hash)) (length d.old) d.old m (in_units f u group.now) }
-{
-    decipher(b, group, u, ks, vs, n);
-    splitter::add_stripes(d, hash, b, m);
-}
-
-// The group with the last stripe, and m stripes before it, deciphered into b.
-fn last_group(
-    d: &mut [u8],
-    b: &mut [u8],
-    hash: Hash,
-    group: &[u8],
-    u: u64,
-    ks: &[u32],
-    vs: &[u32],
-    n: usize,
-    m: usize,
-)
-    requires { (length b.old ≡ length group.now) × (length group.now % 16 ≡ 0) × (u + length group.now < 2 ^ 64) × ((n + 2) * 128 ≤ length ks.now)
-        × ((n + 2) * 128 ≤ length vs.now) × (length group.now ≡ m * length d.old + length d.old) × (length d.old ≤ 64) }
-    ensures { (f : ℕ → List ℕ → List ℕ) → Under false n ks.now vs.now f
-        → d.new ≡ merge_from (diffuse (digest_of hash)) (length d.old) d.old m (in_units f u group.now) }
-{
-    decipher(b, group, u, ks, vs, n);
-    splitter::merge_from(d, hash, b, m);
+    b.copy_from_slice(group);
+    xts::decrypt_sliced(b, u, keys);
 }
 
 // The stripes of l bytes in a group of 32 data units.
@@ -119,62 +84,59 @@ fn per_group(l: usize) -> usize
     if l < 64 { 512 } else { 256 }
 }
 
-// The merged decryption of an area under the sliced key schedules ks and vs, group by group.
-fn merge_groups(
-    d: &mut [u8],
-    hash: Hash,
-    area: &[u8],
-    n: usize,
-    ks: &[u32],
-    vs: &[u32],
-    rounds: usize,
-)
-    requires { (1 ≤ n) × (n * length d.old ≡ length area.now) × (32 ≤ length d.old) × (length d.old ≤ 64) × (length d.old % 32 ≡ 0)
-        × ((rounds + 2) * 128 ≤ length ks.now) × ((rounds + 2) * 128 ≤ length vs.now) }
-    ensures { (f : ℕ → List ℕ → List ℕ) → Under false rounds ks.now vs.now f
+// The merged decryption of an area, group by group of 32 data units; the last stripe is in the last group. (What d, area and n have to do
+// with each other is said in each contract: a struct of a block that is written and an area that is read has no other use.)
+fn merge_groups(d: &mut [u8], hash: Hash, area: &[u8], n: usize, keys: Schedules<'_>)
+    requires { (1 ≤ n) × (n * length d.old ≡ length area.now) × (32 ≤ length d.old) × (length d.old ≤ 64) × (length d.old % 32 ≡ 0) }
+    ensures { (f : ℕ → List ℕ → List ℕ) → Under false keys.entry.rounds keys.entry.blocks.now keys.entry.tweaks.now f
         → d.new ≡ merge (diffuse (digest_of hash)) (length d.old) n (in_units f 0 area.now) }
 {
     octets::clear(d);
     let per = per_group(d.len());
-    let len = area.len();
+    let whole = (area.len() - 1) / 16384;
     let mut b = [0u8; 16384];
-    let mut at: usize = 0;
     let mut left = n;
-    while 16384 < len - at {
+    for i in 0..whole {
+        let at = 16384 * i;
         let e = at + 16384;
-        let u = (at / 512) as u64;
-        whole_group(d, &mut b, hash, &area[at..e], u, ks, vs, rounds, per);
-        at = e;
+        decipher(&mut b, &area[at..e], 32 * i as u64, keys);
+        splitter::add_stripes(d, hash, &b, per);
         left -= per;
     }
-    let k = len - at;
-    let m = left - 1;
-    let u = (at / 512) as u64;
-    last_group(d, &mut b[..k], hash, &area[at..], u, ks, vs, rounds, m);
+    let at = 16384 * whole;
+    let last = &mut b[..area.len() - at];
+    decipher(last, &area[at..], 32 * whole as u64, keys);
+    splitter::merge_from(d, hash, last, left - 1);
 }
 
 // The merged decryption of an area under an expanded key, whose schedule of the blocks is sliced in ks. (A function that slices both
 // schedules would hold a third on the stack.)
-fn merge_sliced(d: &mut [u8], hash: Hash, area: &[u8], n: usize, ks: &[u32], keys: Keys)
-    requires { (1 ≤ n) × (n * length d.old ≡ length area.now) × (32 ≤ length d.old) × (length d.old ≤ 64) × (length d.old % 32 ≡ 0)
-        × (length ks.now ≡ 1920) × Ready keys }
+fn merge_sliced(d: &mut [u8], hash: Hash, area: &[u8], n: usize, ks: &[u32; 1920], keys: Keys)
+    requires { (1 ≤ n) × (n * length d.old ≡ length area.now) × (32 ≤ length d.old) × (length d.old ≤ 64) × (length d.old % 32 ≡ 0) }
     ensures { Sliced (keys.rounds + 2) keys.blocks ks.now
         → d.new ≡ merge (diffuse (digest_of hash)) (length d.old) n (in_units (unit_decrypt keys) 0 area.now) }
 {
-    let v = keys.tweaks;
     let rounds = keys.rounds;
-    let vs = cipher::slice_keys(&v, rounds + 2);
-    merge_groups(d, hash, area, n, ks, &vs, rounds);
+    let vs = cipher::slice_keys(&keys.tweaks, rounds + 2);
+    merge_groups(
+        d,
+        hash,
+        area,
+        n,
+        Schedules {
+            blocks: ks,
+            tweaks: &vs,
+            rounds,
+        },
+    );
 }
 
 // The merged decryption of an area under an expanded key.
 fn merge_units(d: &mut [u8], hash: Hash, area: &[u8], n: usize, keys: Keys)
-    requires { (1 ≤ n) × (n * length d.old ≡ length area.now) × (32 ≤ length d.old) × (length d.old ≤ 64) × (length d.old % 32 ≡ 0) × Ready keys }
+    requires { (1 ≤ n) × (n * length d.old ≡ length area.now) × (32 ≤ length d.old) × (length d.old ≤ 64) × (length d.old % 32 ≡ 0) }
     ensures { d.new ≡ merge (diffuse (digest_of hash)) (length d.old) n (in_units (unit_decrypt keys) 0 area.now) }
 {
-    let w = keys.blocks;
-    let rounds = keys.rounds;
-    let ks = cipher::slice_keys(&w, rounds + 2);
+    let ks = cipher::slice_keys(&keys.blocks, keys.rounds + 2);
     merge_sliced(d, hash, area, n, &ks, keys);
 }
 
@@ -196,7 +158,6 @@ pub fn candidate(
 {
     let l = d.len();
     let s = slot_key(hash, passphrase, salt, count, l);
-    let k = s.key;
-    merge_units(d, hash, area, n, xts::expand(&k[..l]));
+    merge_units(d, hash, area, n, xts::expand(&s.value[..l]));
     s.made
 }

@@ -77,14 +77,13 @@ pub lane-five : (i : ℕ) (s : List (List ℕ)) → length s ≡ 5
     → get_or (get_or s 0 []) i 0 ∷ get_or (get_or s 1 []) i 0 ∷ get_or (get_or s 2 []) i 0 ∷ get_or (get_or s 3 []) i 0 ∷ get_or (get_or s 4 []) i 0 ∷ [] ≡ lane i s
 lane-five i s l = sym (ap (lane i) (all_elements [] 5 s l))
 
-pub xor-lane : (i : ℕ) (s v : List (List ℕ)) (a b c d e : List ℕ) → length s ≡ 5 → length v ≡ 5
-    → get_or a i 0 ≡ bit_xor (get_or (get_or s 0 []) i 0) (get_or (get_or v 0 []) i 0) → get_or b i 0 ≡ bit_xor (get_or (get_or s 1 []) i 0) (get_or (get_or v 1 []) i 0)
-    → get_or c i 0 ≡ bit_xor (get_or (get_or s 2 []) i 0) (get_or (get_or v 2 []) i 0) → get_or d i 0 ≡ bit_xor (get_or (get_or s 3 []) i 0) (get_or (get_or v 3 []) i 0)
-    → get_or e i 0 ≡ bit_xor (get_or (get_or s 4 []) i 0) (get_or (get_or v 4 []) i 0)
-    → lane i (a ∷ b ∷ c ∷ d ∷ e ∷ []) ≡ xors (lane i s) (lane i v)
+pub xor-lane : (i : ℕ) (s v r : List (List ℕ)) → length s ≡ 5 → length v ≡ 5 → length r ≡ 5
+    → ((k : ℕ) → k < 5 → get_or (get_or r k []) i 0 ≡ bit_xor (get_or (get_or s k []) i 0) (get_or (get_or v k []) i 0))
+    → lane i r ≡ xors (lane i s) (lane i v)
 unfolding xors ◌⊕◌
-xor-lane i s v a b c d e ls lv ea eb ec ed ee =
-    rw (ea, eb, ec, ed, ee) (ap₂ xors (lane-five i s ls) (lane-five i v lv))
+xor-lane i s v r ls lv lr e =
+    sym (lane-five i r lr)
+    ∙ rw (e 0 (omega arith), e 1 (omega arith), e 2 (omega arith), e 3 (omega arith), e 4 (omega arith)) (ap₂ xors (lane-five i s ls) (lane-five i v lv))
 
 -- ---- a round in lane i
 
@@ -111,18 +110,18 @@ halved s = get_or s 0 [] ∷ get_or s 1 [] ∷ get_or s 2 [] ∷ four 0 ∷ get_
 pub halved-lane : (i : ℕ) (s : List (List ℕ)) → i < 4 → length s ≡ 5 → joined (lane i (halved s)) ≡ lane i s
 halved-lane i s h l = rw (lane-four 0 i h, or_zero_r (get_or (get_or s 2 []) i 0)) (lane-five i s l)
 
--- a turn of the loop over the rounds: the word before its rotation was made a round ago
-pub turn-lane : (i : ℕ) (a : List ℕ × List ℕ) (w : List (List ℕ)) (v u : List ℕ) (g y x : List ℕ) (t j q c : ℕ)
-    → (lane i w, v) ≡ turns turn a t j → (t + j) / 20 ≡ q
-    → get_or y i 0 ≡ taps (lane i w) (16 + (t + j)) → get_or g i 0 ≡ rotl 1 (get_or y i 0) → x ≡ get_or w (t + j) [] → c ≡ k q
-    → u ≡ round_of q c (get_or x i 0) v
-    → (lane i (set w (t + j + 16) g), u) ≡ turns turn a t (j + 1)
+-- a turn of the loop over the rounds, round p: the word before its rotation was made a round ago
+pub turn-lane : (i : ℕ) (a : List ℕ × List ℕ) (w : List (List ℕ)) (v u : List ℕ) (g y : List ℕ) (t j p q c : ℕ)
+    → (lane i w, v) ≡ turns turn a t j → p ≡ t + j → (t + j) / 20 ≡ q
+    → get_or y i 0 ≡ taps (lane i w) (16 + (t + j)) → get_or g i 0 ≡ rotl 1 (get_or y i 0) → c ≡ k q
+    → u ≡ round_of q c (get_or (get_or w p []) i 0) v
+    → (lane i (set w (p + 16) g), u) ≡ turns turn a t (j + 1)
 unfolding grow next
-turn-lane i a w v u g y x t j q c e eq ey eg ex ec eu =
-    let ew : lane i (set w (t + j + 16) g) ≡ grow (lane i w) (t + j) =
-    lane-set w i (t + j + 16) g ∙ ap₂ (λ (n z : ℕ). set (lane i w) n z) (add_comm (t + j) 16) (eg ∙ ap (rotl 1) ey) in
-    let xw : get_or x i 0 ≡ get_or (lane i w) (t + j) 0 = ap (λ (z : List ℕ). get_or z i 0) ex ∙ sym (lane-at w i (t + j)) in
-    turn_more a (lane i w) (lane i (set w (t + j + 16) g)) v u t j q (get_or x i 0) (f q (get_or v 1 0) (get_or v 2 0) (get_or v 3 0)) c e eq ew xw refl ec eu
+turn-lane i a w v u g y t j p q c e ep eq ey eg ec eu =
+    let ew : lane i (set w (p + 16) g) ≡ grow (lane i w) (t + j) =
+    lane-set w i (p + 16) g ∙ ap₂ (λ (n z : ℕ). set (lane i w) n z) (ap (λ (n : ℕ). n + 16) ep ∙ add_comm (t + j) 16) (eg ∙ ap (rotl 1) ey) in
+    let xw : get_or (get_or w p []) i 0 ≡ get_or (lane i w) (t + j) 0 = sym (lane-at w i p) ∙ ap (λ (n : ℕ). get_or (lane i w) n 0) ep in
+    turn_more a (lane i w) (lane i (set w (p + 16) g)) v u t j q (get_or (get_or w p []) i 0) (f q (get_or v 1 0) (get_or v 2 0) (get_or v 3 0)) c e eq ew xw refl ec eu
 
 -- ---- a block in lane i
 
@@ -135,14 +134,30 @@ rounds-lane i w wa wb wc wd s sa sb sc sd l ea eb ec ed =
     (four_twenties (lane i w, lane i s) (lane i wa, lane i sa) (lane i wb, lane i sb) (lane i wc, lane i sc) (lane i wd, lane i sd) ea eb ec ed)
     ∙ turns-rounds (take 16 (lane i w)) (lane i s) (lane i w) 80 (length-map w (λ (x : List ℕ). get_or x i 0) ∙ l) refl (omega arith)
 
-pub added-lane : (i : ℕ) (s v : List (List ℕ)) (a b c d e m : List ℕ)
-    → get_or a i 0 ≡ get_or (get_or s 0 []) i 0 ⊞ get_or (get_or v 0 []) i 0 → get_or b i 0 ≡ get_or (get_or s 1 []) i 0 ⊞ get_or (get_or v 1 []) i 0
-    → get_or c i 0 ≡ get_or (get_or s 2 []) i 0 ⊞ get_or (get_or v 2 []) i 0 → get_or d i 0 ≡ get_or (get_or s 3 []) i 0 ⊞ get_or (get_or v 3 []) i 0
-    → get_or e i 0 ≡ get_or (get_or s 4 []) i 0 ⊞ get_or (get_or v 4 []) i 0 → lane i v ≡ rounds (schedule next m 64) (lane i s) 80
-    → lane i (a ∷ b ∷ c ∷ d ∷ e ∷ []) ≡ compress_words (lane i s) m
+pub added-lane : (i : ℕ) (s v r : List (List ℕ)) (m : List ℕ) → length r ≡ 5
+    → ((k : ℕ) → k < 5 → get_or (get_or r k []) i 0 ≡ get_or (get_or s k []) i 0 ⊞ get_or (get_or v k []) i 0) → lane i v ≡ rounds (schedule next m 64) (lane i s) 80
+    → lane i r ≡ compress_words (lane i s) m
 unfolding compress_words add_words
-added-lane i s v a b c d e m ea eb ec ed ee ev =
-    rw (← ev, lane-at s i 0, lane-at s i 1, lane-at s i 2, lane-at s i 3, lane-at s i 4, lane-at v i 0, lane-at v i 1, lane-at v i 2, lane-at v i 3, lane-at v i 4, ea, eb, ec, ed, ee)
+added-lane i s v r m lr e ev =
+    sym (lane-five i r lr)
+    ∙ rw (
+      ← ev,
+      lane-at s i 0,
+      lane-at s i 1,
+      lane-at s i 2,
+      lane-at s i 3,
+      lane-at s i 4,
+      lane-at v i 0,
+      lane-at v i 1,
+      lane-at v i 2,
+      lane-at v i 3,
+      lane-at v i 4,
+      e 0 (omega arith),
+      e 1 (omega arith),
+      e 2 (omega arith),
+      e 3 (omega arith),
+      e 4 (omega arith),
+    )
 
 -- ---- the bytes of the lanes
 

@@ -1,2 +1,1 @@
-pub mod EntriesLaws
 pub mod OpenedLaws

@@ -1,14 +1,10 @@
 -- An opening laid in 66 bytes: slot, key length, the 64 key bytes.
-use mathlib.Core.Path.{◌≡◌, ap, ◌∙◌}
-use mathlib.Core.List.{List, [], ◌∷◌}
-use Prim.Native.Nat.{ℕ}
-use native.Mathlib.Omega.{arith}
-use lib.ListN.{length}
-use Rattle.octets.specs.Splice.{splice}
-use Rattle.octets.proofs.SpliceLaws.{splice_all, splice-next}
+use Rattle.std.proofs.Common.{arith, ◌≡◌, ◌∙◌, ap, ℕ, List, [], ◌∷◌, ◌++◌, length, take, drop, set}
+use Rattle.std.proofs.lemmas.List.{drop_all, append-nil}
 
-pub laid : (b₀ b₁ b₂ key : List ℕ) (s l : ℕ) → length b₀ ≡ 66 → length key ≡ 64
-    → b₁ ≡ splice b₀ 0 (s ∷ l ∷ []) → b₂ ≡ splice b₁ 2 key → b₂ ≡ s ∷ l ∷ key
-laid b₀ b₁ b₂ key s l h k e₁ e₂ =
-    e₂ ∙ ap (λ (x : List ℕ). splice x 2 key) e₁ ∙ splice-next b₀ 0 (s ∷ l ∷ []) 2 key (omega arith) (omega arith)
-    ∙ splice_all b₀ (s ∷ l ∷ key) (omega arith)
+pub laid : (d key : List ℕ) (s l : ℕ) → length d ≡ 66 → take 2 (set (set d 0 s) 1 l) ++ (key ++ drop 64 (drop 2 (set (set d 0 s) 1 l))) ≡ s ∷ l ∷ key
+laid [] key s l h = absurd (omega (arith, h))
+laid (x ∷ []) key s l h = absurd (omega (arith, h))
+laid (x ∷ y ∷ d) key s l h =
+    let e : key ++ drop 64 d ≡ key = ap (λ (r : List ℕ). key ++ r) (drop_all 64 d (omega (arith, h))) ∙ append-nil key in
+    λ j. s ∷ l ∷ e j

@@ -5,12 +5,13 @@ use mathlib.Core.List.{List, [], ◌∷◌, ◌++◌}
 use Prim.Native.Nat.{ℕ, zero, suc, ◌+◌, ◌-◌, ◌*◌, ◌/◌, ◌%◌, ◌<◌, ◌≤◌, zero-le}
 use native.Mathlib.Nat.{eq-or-lt_of_le}
 use native.Mathlib.Omega.{arith}
-use lib.ListN.{length, get_or}
+use lib.ListN.{length, get_or, replicate}
+use Rattle.std.specs.Int.Bits.{bit_xor, xor_zero_r}
 use Rattle.octets.specs.Octets.{◌⊕◌}
 use Rattle.octets.proofs.XorLaws.{⊕-assoc}
 use Rattle.aes.specs.Columns.{elems, at4}
 use Rattle.aes.proofs.GroupLaws.{elem_at, Apart, Done, done_none, done_more, apart4, at4-is}
-use Rattle.mixing.specs.Rows.{rows_at, put_rows, ReadPut, sum_of, Column}
+use Rattle.mixing.specs.Rows.{rows_at, put_rows, ReadPut, sum_of, next_sums, cross_sums, Column}
 
 -- ---- sums of rows
 
@@ -19,6 +20,21 @@ unfolding ◌⊕◌
 sum-assoc x y z =
     ap₂ ◌∷◌ (sym (⊕-assoc (get_or x 0 0) (get_or y 0 0) (get_or z 0 0))) (ap₂ ◌∷◌ (sym (⊕-assoc (get_or x 1 0) (get_or y 1 0) (get_or z 1 0)))
     (ap₂ ◌∷◌ (sym (⊕-assoc (get_or x 2 0) (get_or y 2 0) (get_or z 2 0))) (ap₂ ◌∷◌ (sym (⊕-assoc (get_or x 3 0) (get_or y 3 0) (get_or z 3 0))) refl)))
+
+-- no rows, as the code writes them
+abbrev pub no_rows : List ℕ
+no_rows = replicate 4 0
+
+-- nothing is added
+pub next-plain : (x : List ℕ) → sum_of (next_sums x) (next_sums no_rows) ≡ next_sums x
+next-plain x =
+    ap₂ ◌∷◌ (xor_zero_r (bit_xor (get_or x 0 0) (get_or x 1 0))) (ap₂ ◌∷◌ (xor_zero_r (bit_xor (get_or x 1 0) (get_or x 2 0)))
+    (ap₂ ◌∷◌ (xor_zero_r (bit_xor (get_or x 2 0) (get_or x 3 0))) (ap₂ ◌∷◌ (xor_zero_r (bit_xor (get_or x 3 0) (get_or x 0 0))) refl)))
+
+pub cross-plain : (x : List ℕ) → sum_of (cross_sums x) no_rows ≡ cross_sums x
+cross-plain x =
+    ap₂ ◌∷◌ (xor_zero_r (bit_xor (get_or x 0 0) (get_or x 2 0))) (ap₂ ◌∷◌ (xor_zero_r (bit_xor (get_or x 1 0) (get_or x 3 0)))
+    (ap₂ ◌∷◌ (xor_zero_r (bit_xor (get_or x 0 0) (get_or x 2 0))) (ap₂ ◌∷◌ (xor_zero_r (bit_xor (get_or x 1 0) (get_or x 3 0))) refl)))
 
 -- ---- a column of 32 words
 

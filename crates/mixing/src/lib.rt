@@ -3,26 +3,30 @@
 // has one caller and is inlined there, and the loop over the columns then runs on vectors.
 #![tactic(auto)]
 
-ghost use Rattle.std.specs.Prelude.{◌≡◌, ◌+◌, ◌<◌, length};
+ghost use Rattle.std.specs.Prelude.{◌+◌, ◌<◌, ◌≡◌};
 ghost use Rattle.aes.specs.Aes.{mix_columns, inv_mix_columns};
-ghost use Rattle.aes.specs.Planes.{Each, premix};
+ghost use Rattle.aes.specs.Planes.{Each};
 ghost use Rattle.aes.specs.Columns.{mix_of, premix_of};
 ghost use Rattle.mixing.specs.Rows.{rows_at, put_rows, sum_of, next_sums, cross_sums, mixed_of, ReadPut, Column};
+
+use std::array;
 
 // ---- the rows of a plane in a column
 
 // The rows whose first is word k.
+// (Like planes' cell_at and put_cell, at other numbers: see there.)
 fn rows(q: &[u32; 128], k: usize) -> [u32; 4]
     requires { k < 116 }
     ensures { result ≡ rows_at k q.now }
 {
-    [q[k], q[k + 4], q[k + 8], q[k + 12]]
+    array::from_fn(|r| q[k + 4 * r])
 }
 
-// Stores x as the rows whose first is word k.
+// Stores x as the rows whose first is word k. (They are not neighbours, so no method of slices stores them, and a loop needs an invariant
+// that is longer than the four lines.)
 fn put_rows(q: &mut [u32; 128], k: usize, x: [u32; 4])
-    requires { (length q.old ≡ 128) × (k < 116) }
-    ensures { (length q.new ≡ 128) × (q.new ≡ put_rows k x q.old) }
+    requires { k < 116 }
+    ensures { q.new ≡ put_rows k x q.old }
 {
     q[k] = x[0];
     q[k + 4] = x[1];
@@ -34,14 +38,14 @@ fn put_rows(q: &mut [u32; 128], k: usize, x: [u32; 4])
 fn sum(x: [u32; 4], y: [u32; 4]) -> [u32; 4]
     ensures { result ≡ sum_of x y }
 {
-    [x[0] ^ y[0], x[1] ^ y[1], x[2] ^ y[2], x[3] ^ y[3]]
+    array::from_fn(|r| x[r] ^ y[r])
 }
 
 // The sum of each row and the row below it.
 fn next_sums(a: [u32; 4]) -> [u32; 4]
     ensures { result ≡ next_sums a }
 {
-    [a[0] ^ a[1], a[1] ^ a[2], a[2] ^ a[3], a[3] ^ a[0]]
+    array::from_fn(|r| a[r] ^ a[(r + 1) % 4])
 }
 
 // The sum of each row and the row two below it.
@@ -57,29 +61,15 @@ fn cross_sums(a: [u32; 4]) -> [u32; 4]
 fn mixed(h: [u32; 4], a: [u32; 4]) -> [u32; 4]
     ensures { result ≡ mixed_of h a }
 {
-    [
-        h[0] ^ (a[1] ^ (a[2] ^ a[3])),
-        h[1] ^ (a[2] ^ (a[3] ^ a[0])),
-        h[2] ^ (a[3] ^ (a[0] ^ a[1])),
-        h[3] ^ (a[0] ^ (a[1] ^ a[2])),
-    ]
+    array::from_fn(|r| h[r] ^ (a[(r + 1) % 4] ^ (a[(r + 2) % 4] ^ a[(r + 3) % 4])))
 }
 
 // ---- MIXCOLUMNS (5.1.3): 2 (a + b) + b + c + d, where b, c and d are the rows below a
 
-// Stores the mixed rows of a bit, which are a; the result is the rows of the bit below, at k.
-fn mix_rows(q: &mut [u32; 128], k: usize, a: [u32; 4]) -> [u32; 4]
-    requires { (length q.old ≡ 128) × (k < 100) }
-    ensures { ReadPut k (k + 16) (λ x. mixed_of (next_sums x) a) q.old result q.new }
-{
-    let b = rows(q, k);
-    put_rows(q, k + 16, mixed(next_sums(b), a));
-    b
-}
-
-// The same for bits 1, 3 and 4, where doubling (4.2) adds bit 7, whose rows are t.
-fn mix_reduced(q: &mut [u32; 128], k: usize, a: [u32; 4], t: [u32; 4]) -> [u32; 4]
-    requires { (length q.old ≡ 128) × (k < 100) }
+// Stores the mixed rows of a bit, which are a, where doubling (4.2) adds the rows t; the result is the rows of the bit below, at k.
+// (One function for all bits: t is zeros where doubling adds nothing.)
+fn mix_rows(q: &mut [u32; 128], k: usize, a: [u32; 4], t: [u32; 4]) -> [u32; 4]
+    requires { k < 100 }
     ensures { ReadPut k (k + 16) (λ x. mixed_of (sum_of (next_sums x) (next_sums t)) a) q.old result q.new }
 {
     let b = rows(q, k);
@@ -87,49 +77,39 @@ fn mix_reduced(q: &mut [u32; 128], k: usize, a: [u32; 4], t: [u32; 4]) -> [u32; 
     b
 }
 
-// MIXCOLUMNS of column c.
+// MIXCOLUMNS of column c. Doubling adds bit 7 to bits 1, 3 and 4.
 fn mix_column(q: &mut [u32; 128], c: usize)
-    requires { (length q.old ≡ 128) × (c < 4) }
+    requires { c < 4 }
     ensures { Column mix_of c q.old q.new }
 {
+    let none = [0u32; 4];
     let a7 = rows(q, c + 112);
-    let a6 = mix_rows(q, c + 96, a7);
-    let a5 = mix_rows(q, c + 80, a6);
-    let a4 = mix_rows(q, c + 64, a5);
-    let a3 = mix_reduced(q, c + 48, a4, a7);
-    let a2 = mix_reduced(q, c + 32, a3, a7);
-    let a1 = mix_rows(q, c + 16, a2);
-    let a0 = mix_reduced(q, c, a1, a7);
+    let a6 = mix_rows(q, c + 96, a7, none);
+    let a5 = mix_rows(q, c + 80, a6, none);
+    let a4 = mix_rows(q, c + 64, a5, none);
+    let a3 = mix_rows(q, c + 48, a4, a7);
+    let a2 = mix_rows(q, c + 32, a3, a7);
+    let a1 = mix_rows(q, c + 16, a2, none);
+    let a0 = mix_rows(q, c, a1, a7);
     put_rows(q, c, mixed(next_sums(a7), a0));
 }
 
 // MIXCOLUMNS (5.1.3), in place.
 pub fn mix_columns(q: &mut [u32; 128])
-    requires { length q.old ≡ 128 }
-    ensures { (length q.new ≡ 128) × Each mix_columns q.old q.new }
+    ensures { Each mix_columns q.old q.new }
 {
-    let mut c: usize = 0;
-    while c < 4 {
+    for c in 0..4 {
         mix_column(q, c);
-        c += 1;
     }
 }
 
 // ---- INVMIXCOLUMNS (5.3.3): a + 4 (a + c), where c is the row two below a, and then MIXCOLUMNS
 
-// Stores the rows of a bit, which are a, with those of 4 (a + c); the result is the rows of the second bit below, at k.
-fn premix_rows(q: &mut [u32; 128], k: usize, a: [u32; 4]) -> [u32; 4]
-    requires { (length q.old ≡ 128) × (k < 84) }
-    ensures { ReadPut k (k + 32) (λ x. sum_of a (cross_sums x)) q.old result q.new }
-{
-    let b = rows(q, k);
-    put_rows(q, k + 32, sum(a, cross_sums(b)));
-    b
-}
-
-// The same for bits 2 to 5, where the doublings (4.2) add t.
-fn premix_reduced(q: &mut [u32; 128], k: usize, a: [u32; 4], t: [u32; 4]) -> [u32; 4]
-    requires { (length q.old ≡ 128) × (k < 84) }
+// Stores the rows of a bit, which are a, with those of 4 (a + c), to which the doublings (4.2) add t; the result is the rows of the
+// second bit below, at k.
+// (One function for all bits, as mix_rows; the two differ in the plane that they reach and in the sum.)
+fn premix_rows(q: &mut [u32; 128], k: usize, a: [u32; 4], t: [u32; 4]) -> [u32; 4]
+    requires { k < 84 }
     ensures { ReadPut k (k + 32) (λ x. sum_of a (sum_of (cross_sums x) t)) q.old result q.new }
 {
     let b = rows(q, k);
@@ -137,43 +117,33 @@ fn premix_reduced(q: &mut [u32; 128], k: usize, a: [u32; 4], t: [u32; 4]) -> [u3
     b
 }
 
-// The first step of INVMIXCOLUMNS, for column c.
+// The first step of INVMIXCOLUMNS, for column c. The doublings add to bits 2 to 5.
 fn premix_column(q: &mut [u32; 128], c: usize)
-    requires { (length q.old ≡ 128) × (c < 4) }
+    requires { c < 4 }
     ensures { Column premix_of c q.old q.new }
 {
+    let none = [0u32; 4];
     let a7 = rows(q, c + 112);
     let a6 = rows(q, c + 96);
     let s7 = cross_sums(a7);
     let s6 = cross_sums(a6);
     let both = sum(s7, s6);
-    let a5 = premix_rows(q, c + 80, a7);
-    let a4 = premix_rows(q, c + 64, a6);
-    let a3 = premix_reduced(q, c + 48, a5, s7);
-    let a2 = premix_reduced(q, c + 32, a4, both);
-    let a1 = premix_reduced(q, c + 16, a3, s6);
-    let a0 = premix_reduced(q, c, a2, s7);
+    let a5 = premix_rows(q, c + 80, a7, none);
+    let a4 = premix_rows(q, c + 64, a6, none);
+    let a3 = premix_rows(q, c + 48, a5, s7);
+    let a2 = premix_rows(q, c + 32, a4, both);
+    let a1 = premix_rows(q, c + 16, a3, s6);
+    let a0 = premix_rows(q, c, a2, s7);
     put_rows(q, c + 16, sum(a1, both));
     put_rows(q, c, sum(a0, s6));
 }
 
-// The first step of INVMIXCOLUMNS.
-fn premix_columns(q: &mut [u32; 128])
-    requires { length q.old ≡ 128 }
-    ensures { (length q.new ≡ 128) × Each premix q.old q.new }
-{
-    let mut c: usize = 0;
-    while c < 4 {
-        premix_column(q, c);
-        c += 1;
-    }
-}
-
 // INVMIXCOLUMNS (5.3.3), in place.
 pub fn inv_mix_columns(q: &mut [u32; 128])
-    requires { length q.old ≡ 128 }
-    ensures { (length q.new ≡ 128) × Each inv_mix_columns q.old q.new }
+    ensures { Each inv_mix_columns q.old q.new }
 {
-    premix_columns(q);
+    for c in 0..4 {
+        premix_column(q, c);
+    }
     mix_columns(q);
 }

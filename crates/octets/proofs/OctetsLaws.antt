@@ -1,18 +1,18 @@
 -- Laws of byte strings: lengths and ranges, numbers in bytes, exclusive or, equality as a test.
 use mathlib.Core.Path.{◌≡◌, refl, sym, ap, ap₂, ◌∙◌}
 use mathlib.Core.List.{List, [], ◌∷◌, ◌++◌, map}
-use mathlib.Core.Logic.{◌≢◌}
-use mathlib.Core.Bool.{Bool, true, false, ◌&&◌}
+use mathlib.Core.Bool.{Bool, true, ◌&&◌}
 use Prim.Native.Nat.{ℕ, zero, suc, ◌+◌, ◌-◌, ◌/◌, ◌%◌, ◌^◌, ◌≤◌, ◌<◌}
-use native.Mathlib.Nat.{mod-lt, zero-lt-suc, suc_inj}
-use native.Mathlib.Numerals.{add-one}
+use Rattle.std.specs.Int.{bytes_high_first}
+use native.Mathlib.Nat.{div-div-eq-div-mul, pow-succ', mod-lt, zero-lt-suc, suc_inj}
 use native.Mathlib.Omega.{arith}
-use lib.ListN.{length, take, drop, get_or, replicate, length-append, length-take, length-drop, length-replicate, length-map, replicate-append-replicate, drop_of_length-le}
-use lib.Seq.{length-take-le, drop-cons}
+use lib.ListN.{length, take, drop, get_or, replicate, length-append, length-take, length-drop, length-replicate, length-map, replicate-append-replicate}
+use lib.Seq.{length-take-le}
 use lib.Dec.{eqb}
-use borrow.Author.Tests.{eqb-true, eq-eqb, ne_eqb}
+use lib.Pointwise.{pointwise}
+use borrow.Author.Tests.{eqb-true, eq-eqb}
 use Rattle.octets.specs.Octets.{Bytes, Str, zeros, padded, big_endian, be32_of, be32_at, ◌⊕◌, xors, same, be32}
-use Rattle.octets.proofs.BoolLaws.{and_split, and-false}
+use Rattle.octets.proofs.BoolLaws.{and_split}
 use Rattle.octets.proofs.XorLaws.{⊕-byte, ⊕_undo, ⊕-assoc, ⊕_self, zero-⊕, ⊕-div, ⊕-mod}
 
 -- ---- lengths and ranges
@@ -93,6 +93,20 @@ str_big_endian (suc n) x =
 pub length-big_endian : (n x : ℕ) → length (big_endian n x) ≡ n
 length-big_endian n x = (str_big_endian n x).len
 
+-- std's bytes of a number
+high_snoc : (k n : ℕ) → bytes_high_first (suc k) n ≡ bytes_high_first k (n / 256) ++ (n % 256 ∷ [])
+high_snoc zero n = refl
+high_snoc (suc zero) n = refl
+high_snoc (suc (suc k)) n =
+    ap₂ (λ (x : ℕ) (l : List ℕ). x % 256 ∷ l)
+    (ap (λ (m : ℕ). n / m) (pow-succ' 256 (suc k)) ∙ sym (div-div-eq-div-mul n 256 (256 ^ suc k)))
+    (high_snoc (suc k) n)
+
+pub high_first : (k n : ℕ) → bytes_high_first k n ≡ big_endian k n
+unfolding big_endian
+high_first zero n = refl
+high_first (suc k) n = high_snoc k n ∙ ap (λ (l : List ℕ). l ++ (n % 256 ∷ [])) (high_first k (n / 256))
+
 -- four bytes of a number read back
 pub be32-bytes : (x : ℕ) → x < 2 ^ 32 → be32_of (x / 256 / 256 / 256 % 256) (x / 256 / 256 % 256) (x / 256 % 256) (x % 256) ≡ x
 be32-bytes x h = omega arith
@@ -156,30 +170,13 @@ big_endian-⊕ (suc n) x y =
 
 -- ---- equality as a test
 
--- a turn of a comparison, and its end
-module _ (a b : List ℕ) (i : ℕ) (q : Bool) (l : length a ≡ length b) (e : same (drop i a) (drop i b) ≡ q) where
-  pub same_differ : i < length a → get_or a i 0 ≢ get_or b i 0 → false ≡ q
-  unfolding same
-  same_differ h n =
-      sym (ap₂ same (drop-cons a i 0 h) (drop-cons b i 0 (omega arith)) ∙ ap (λ (t : Bool). t && same (drop (suc i) a) (drop (suc i) b)) (ne_eqb (get_or a i 0) (get_or b i 0) n)) ∙ e
-
-  pub same_step : i < length a → get_or a i 0 ≡ get_or b i 0 → same (drop (i + 1) a) (drop (i + 1) b) ≡ q
-  unfolding same
-  same_step h n =
-      ap (λ (j : ℕ). same (drop j a) (drop j b)) (add-one i)
-      ∙ sym (ap₂ same (drop-cons a i 0 h) (drop-cons b i 0 (omega arith)) ∙ ap (λ (t : Bool). t && same (drop (suc i) a) (drop (suc i) b)) (eq-eqb (get_or a i 0) (get_or b i 0) n)) ∙ e
-
-  pub same_end : length a ≤ i → true ≡ q
-  unfolding same
-  same_end h = sym (ap₂ same (drop_of_length-le a {i = i} h) (drop_of_length-le b {i = i} (omega arith))) ∙ e
-
--- strings of different lengths differ
-pub same_length : (x y : List ℕ) → length x ≢ length y → false ≡ same x y
+-- std's test of two lists, pair by pair
+pub pointwise_same : (x y : List ℕ) → pointwise eqb x y ≡ same x y
 unfolding same
-same_length [] [] h = absurd (h refl)
-same_length [] (b ∷ y) h = refl
-same_length (a ∷ x) [] h = refl
-same_length (a ∷ x) (b ∷ y) h = sym (and-false (eqb a b) (same x y) (sym (same_length x y (λ e. h (ap suc e)))))
+pointwise_same [] [] = refl
+pointwise_same [] (b ∷ y) = refl
+pointwise_same (a ∷ x) [] = refl
+pointwise_same (a ∷ x) (b ∷ y) = ap (λ (t : Bool). eqb a b && t) (pointwise_same x y)
 
 pub same_refl : (x : List ℕ) → same x x ≡ true
 unfolding same

@@ -3,7 +3,7 @@ use mathlib.Core.Path.{◌≡◌, refl, sym, ap, ap₂, ◌∙◌}
 use mathlib.Core.List.{List, [], ◌∷◌, ◌++◌, append_assoc, append-nil}
 use Prim.Native.Nat.{ℕ, zero, suc, ◌+◌, ◌-◌, ◌*◌, ◌/◌, ◌≤◌, ◌<◌, min}
 use native.Mathlib.Decide.{dec_le}
-use native.Mathlib.Nat.{add-div_right, div-eq_of_lt, lt-div-mul-add}
+use native.Mathlib.Nat.{add-div_right, div-eq_of_lt, div-mul-le_self, lt-div-mul-add, mul_comm, mul-le-mul_right}
 use native.Mathlib.Numerals.{add-one}
 use native.Mathlib.Omega.{arith}
 use lib.ListN.{length, take, drop, length-take, length-drop, length-append, take-append-drop}
@@ -22,7 +22,7 @@ drop_none (suc k) (x ∷ l) h = absurd (let e : suc (length l) ≡ 0 = h (omega 
 pub take_min : (D n : ℕ) (l : List ℕ) → n ≡ min D (length l) → take D l ≡ take n l
 take_min D n l e = sym (take_all n (take D l) (omega (arith, length-take D l))) ∙ take-take n D l (omega arith)
 
-drop_min : (D n : ℕ) (l : List ℕ) → n ≡ min D (length l) → drop D l ≡ drop n l
+pub drop_min : (D n : ℕ) (l : List ℕ) → n ≡ min D (length l) → drop D l ≡ drop n l
 drop_min D n l e =
     let k : D ≡ n + (D - n) = omega arith in
     ap (λ (x : ℕ). drop x l) k ∙ sym (drop-drop (D - n) n l) ∙ drop_none (D - n) (drop n l) (λ h. length-drop n l ∙ omega arith)
@@ -43,6 +43,17 @@ count_more D n hD hn (no h) =
 
 count_none : (D : ℕ) → 1 ≤ D → piece_count D 0 ≡ 0
 count_none D h = let b : 0 + (D - 1) ≡ D - 1 = omega arith in ap (λ (k : ℕ). k / D) b ∙ div-eq_of_lt (omega arith)
+
+-- the pieces are enough
+pub piece_count_covers : (D n : ℕ) → 1 ≤ D → n ≤ D * piece_count D n
+piece_count_covers D n h = omega (arith, lt-div-mul-add {a = n + (D - 1)} {b = D} h, mul_comm D (piece_count D n))
+
+-- a piece begins before the end
+pub piece_inside : (D n j : ℕ) → 1 ≤ D → j < piece_count D n → D * j < n
+piece_inside D n j h k =
+    let a : (j + 1) * D ≤ piece_count D n * D = mul-le-mul_right D (let e : j + 1 ≤ piece_count D n = omega arith in e) in
+    let b : piece_count D n * D ≤ n + (D - 1) = div-mul-le_self (n + (D - 1)) D in
+    omega (arith, mul_comm D j)
 
 module _ (D : ℕ) (hD : 1 ≤ D) (f : ℕ → List ℕ → List ℕ) where
   pub in_pieces_more : (u : ℕ) (x : List ℕ) → 1 ≤ length x → in_pieces D f u x ≡ f u (take D x) ++ in_pieces D f (suc u) (drop D x)

@@ -1,151 +1,110 @@
-// Opening a drive, by a slot's number and without one.
+// Openings: a slot by its number, or the first that opens.
 #![tactic(auto)]
 
-ghost use Rattle.std.specs.Prelude.{◌≡◌, true};
+ghost use Rattle.std.specs.Prelude.{◌≡◌, IfOk};
 ghost use Rattle.rules.specs.Checks.{first};
-ghost use Rattle.rules.specs.Calls.{open_slot, open_any, passphrase_ok, early_checks};
+ghost use Rattle.rules.specs.Calls.{open_slot, open_any, early_checks};
 ghost use Rattle.rules.specs.Promises.{DoesOpen};
 ghost use Rattle.profiles.specs.Suites.{built};
-ghost use Rattle.header.specs.Refusals.{number};
-ghost use Rattle.header.specs.Records.{facts_in, HeaderOk};
-ghost use Rattle.opening.specs.Opening.{IsFound, Zeroed};
+ghost use Rattle.header.specs.Refusals.{checked, answered};
+ghost use Rattle.header.specs.Records.{facts_in};
+ghost use Rattle.opening.specs.Opening.{IsFound, slot_in, length_in, key_in, values_in};
 
-use header::Refusal;
+use header::check::ensure;
+use header::{Drive, Passphrase, Refusal, Refused, SlotNumber};
+use hmac::Counted;
 
-// What an opening returns. The key is followed by zeros; where the opening is refused, slot, length and key are zero. Last, how many values
-// of HMAC it made.
+// A slot that was opened: its number, the length of the volume key, the key followed by zeros, and how many values of HMAC were made.
+// (The length stands beside the key, since there is no heap and C gets 64 bytes.)
 #[derive(Clone, Copy)]
 pub struct Opened {
-    pub refusal: Refusal,
     pub slot: u8,
     pub key_length: u8,
     pub key: [u8; 64],
     pub values: u64,
 }
 
-// The first slot that opens, counted from 1, or none.
-#[derive(Clone, Copy)]
-pub enum Found {
-    At(u8),
-    Nothing,
-}
-
-// What a search finds, and how many values of HMAC it made; the key counts where a slot was found.
-#[derive(Clone, Copy)]
-pub struct Search {
-    pub found: Found,
-    pub key: [u8; 64],
-    pub values: u64,
-}
-
-// A refused opening, that made so many values.
-fn refused(r: Refusal, values: u64) -> Opened
-    ensures { Zeroed r values result }
+// The slot and the passphrase of an opening by number whose checks that derive nothing pass, on a drive whose header is accepted.
+fn open_slot_check<'a>(
+    drive: Drive<'_>,
+    slot: u8,
+    passphrase: &'a [u8],
+) -> Result<(SlotNumber, Passphrase<'a>), Refusal>
+    ensures number { checked result ≡ first (early_checks (facts_in drive.entry.image.now) (open_slot slot passphrase.now)) }
+    ensures same { IfOk result (λ p. (p.0.number ≡ slot) × (p.1.bytes.now ≡ passphrase.now)) }
 {
-    Opened {
-        refusal: r,
-        slot: 0,
-        key_length: 0,
-        key: [0u8; 64],
-        values,
-    }
-}
-
-// The checks of an opening by number that derive nothing, on a drive whose header is accepted.
-fn open_slot_check(image: &[u8], slot: u8, passphrase: &[u8]) -> Refusal
-    requires { HeaderOk image.now }
-    ensures { number result ≡ first (early_checks (facts_in image.now) (open_slot slot passphrase.now)) }
-{
-    if !header::arguments::slot_number_ok(slot) {
-        return Refusal::BadSlot;
-    }
-    let fits = header::arguments::passphrase_ok(passphrase);
-    let enabled = header::arguments::slot_enabled(image, slot);
-    if !fits {
-        return Refusal::BadPassphrase;
-    }
-    if !enabled {
-        return Refusal::WrongState;
-    }
-    Refusal::Accepted
+    let s = SlotNumber::try_from(slot)?;
+    let p = Passphrase::try_from(passphrase)?;
+    ensure(drive.is_enabled(s), Refusal::WrongState)?;
+    Ok((s, p))
 }
 
 // Opens a slot by its number.
 // The contract rules out an opening that says 17 and tries nothing, and one that judges the slot by another's state.
-pub fn open_slot(image: &[u8], slot: u8, passphrase: &[u8]) -> Opened
+// (The arguments are those of C's mivrozh_open_slot.)
+pub fn open_slot(image: &[u8], slot: u8, passphrase: &[u8]) -> Result<Opened, Refused>
     ensures { DoesOpen built image.now (open_slot slot passphrase.now)
-        (number result.refusal) result.slot result.key_length result.key result.values }
+        (answered result) (slot_in result) (length_in result) (key_in result) (values_in result) }
 {
-    let h = header::check::header_check(image);
-    if header::number_of(h) != 0 {
-        return refused(h, 0);
-    }
-    let r = open_slot_check(image, slot, passphrase);
-    if header::number_of(r) != 0 {
-        return refused(r, 0);
-    }
-    let t = slots::try_slot(image, slot, passphrase);
-    if !t.opens {
-        return refused(Refusal::WrongKey, t.values);
-    }
-    let key = t.key;
-    Opened {
-        refusal: r,
-        slot,
-        key_length: header::facts::key_bytes(image) as u8,
+    let drive = Drive::check(image)?;
+    let (slot, passphrase) = open_slot_check(drive, slot, passphrase)?;
+    let trial = slots::try_slot(drive, slot, passphrase);
+    let values = trial.made;
+    let key = trial.value.ok_or(Refused {
+        refusal: Refusal::WrongKey,
+        values,
+    })?;
+    Ok(Opened {
+        slot: slot.number,
+        key_length: drive.key_bytes() as u8,
         key,
-        values: t.values,
-    }
+        values,
+    })
 }
 
-// Tries the slots in turn, and stops at the first that opens.
-fn find_slot(image: &[u8], passphrase: &[u8]) -> Search
-    requires { HeaderOk image.now × (passphrase_ok passphrase.now ≡ true) }
-    ensures { IsFound result (facts_in image.now) passphrase.now }
+// Tries the slots in turn, and stops at the first that opens: its number and its key, if there is one.
+// (01, "Forms for each place", asks for a loop that yields by break, so the slots are counted by hand.)
+fn find_slot(
+    drive: Drive<'_>,
+    passphrase: Passphrase<'_>,
+) -> Counted<Option<(SlotNumber, [u8; 64])>>
+    ensures { IsFound result (facts_in drive.entry.image.now) passphrase.entry.bytes.now }
 {
-    let mut key = [0u8; 64];
-    let mut values: u64 = 0;
-    let mut slot: u8 = 1;
-    let found = loop {
-        if slot == 9 {
-            break Found::Nothing;
+    let mut made: u64 = 0;
+    let mut number: u8 = 1;
+    let value = loop {
+        if number == 9 {
+            break None;
         }
-        let t = slots::try_slot(image, slot, passphrase);
-        key = t.key;
-        values += t.values;
-        if t.opens {
-            break Found::At(slot);
+        let slot = SlotNumber { number };
+        let trial = slots::try_slot(drive, slot, passphrase);
+        made += trial.made;
+        if let Some(key) = trial.value {
+            break Some((slot, key));
         }
-        slot += 1;
+        number += 1;
     };
-    Search { found, key, values }
+    Counted { value, made }
 }
 
 // Opens the first slot that the passphrase opens.
 // The contract rules out a search that leaves slot 8 out, one that answers with a fixed key, and one that does not count the slot that
 // opened.
-pub fn open(image: &[u8], passphrase: &[u8]) -> Opened
+pub fn open(image: &[u8], passphrase: &[u8]) -> Result<Opened, Refused>
     ensures { DoesOpen built image.now (open_any passphrase.now)
-        (number result.refusal) result.slot result.key_length result.key result.values }
+        (answered result) (slot_in result) (length_in result) (key_in result) (values_in result) }
 {
-    let h = header::check::header_check(image);
-    if header::number_of(h) != 0 {
-        return refused(h, 0);
-    }
-    if !header::arguments::passphrase_ok(passphrase) {
-        return refused(Refusal::BadPassphrase, 0);
-    }
-    let s = find_slot(image, passphrase);
-    let found = s.found;
-    let Found::At(slot) = found else {
-        return refused(Refusal::WrongKey, s.values);
-    };
-    let key = s.key;
-    Opened {
-        refusal: Refusal::Accepted,
-        slot,
-        key_length: header::facts::key_bytes(image) as u8,
+    let drive = Drive::check(image)?;
+    let search = find_slot(drive, Passphrase::try_from(passphrase)?);
+    let values = search.made;
+    let (slot, key) = search.value.ok_or(Refused {
+        refusal: Refusal::WrongKey,
+        values,
+    })?;
+    Ok(Opened {
+        slot: slot.number,
+        key_length: drive.key_bytes() as u8,
         key,
-        values: s.values,
-    }
+        values,
+    })
 }

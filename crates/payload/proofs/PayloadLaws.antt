@@ -1,7 +1,7 @@
 -- Laws for read and write: what an accepted call's arguments are, what is read and what is written.
 use mathlib.Core.Path.{◌≡◌, refl, sym, ap, ap₂, ◌∙◌}
 use mathlib.Core.List.{List, ◌++◌}
-use mathlib.Core.Bool.{Bool, true, false}
+use mathlib.Core.Bool.{Bool, true, false, cond}
 use Prim.Native.Nat.{ℕ, ◌+◌, ◌-◌, ◌*◌, ◌/◌, ◌%◌, ◌≤◌, ◌<◌}
 use native.Mathlib.Omega.{arith}
 use lib.Dec.{eqb, leb}
@@ -21,6 +21,9 @@ use Rattle.rules.specs.Step.{written, writes}
 use Rattle.rules.proofs.ChecksLaws.{accepted}
 use Rattle.profiles.specs.Suites.{aes_xts}
 use Rattle.header.specs.Records.{facts_in, HeaderOk}
+use Rattle.header.specs.declared.refusal.Refusal.{Refusal}
+use Rattle.header.specs.Refusals.{number}
+use Rattle.header.proofs.AnswerLaws.{number_some}
 use Rattle.header.proofs.SoundLaws.{sound}
 use Rattle.slots.proofs.AreaLaws.{suite_is}
 
@@ -108,3 +111,15 @@ module _ (image : List ℕ) (ok : HeaderOk image) (key : List ℕ) (u n : ℕ) (
         = d ∙ ap (in_units (xts_encrypt key) u) b ∙ ap (λ (S : Suite). in_units (S.encipher key) u buffer) (suite_is image _ refl) in
         splice-part copied ciphered at end (omega arith) (l ∙ sym m) ∙ ap (λ (x : List ℕ). splice x at ciphered) c
         ∙ splice_over image at buffer ciphered l fits ∙ ap₂ (splice image) a s
+
+-- ---- the test of the key, behind the other checks
+
+-- refused: it was the wrong key
+pub tested-wrong : (e : Refusal) (b : Bool) → number e ≡ cond b 0 17 → b ≡ false
+tested-wrong e true h = absurd (number_some e h)
+tested-wrong e false h = refl
+
+-- accepted: it was the right one
+pub tested-right : (b : Bool) → ◌≡◌ {A = ℕ} 0 (cond b 0 17) → b ≡ true
+tested-right true h = refl
+tested-right false h = absurd (omega arith)

@@ -7,12 +7,14 @@ ghost use Rattle.rules.specs.Calls.{read, write, range_checks, bytes_read};
 ghost use Rattle.rules.specs.Step.{written, writes};
 ghost use Rattle.rules.specs.Promises.{Does, DoesRead};
 ghost use Rattle.profiles.specs.Suites.{built};
-ghost use Rattle.header.specs.Refusals.{number};
+ghost use Rattle.header.specs.Refusals.{checked, answered, values_of};
 ghost use Rattle.header.specs.Records.{facts_in, HeaderOk};
 
-use header::{ImageSector, Outcome, PayloadUnit, Refusal};
+use header::check::ensure;
+use header::{Drive, ImageSector, PayloadUnit, Refusal, Refused};
 
 // The byte of the image at which a unit of the payload begins. Here alone a unit becomes a place in the image.
+// (01, "Forms for each place", asks for this: a From would convert the counts anywhere.)
 fn unit_offset(payload: ImageSector, unit: PayloadUnit) -> usize
     requires { payload.0 * 512 + unit.0 * 512 < 2 ^ 64 }
     ensures { result ≡ payload.0 * 512 + unit.0 * 512 }
@@ -21,77 +23,71 @@ fn unit_offset(payload: ImageSector, unit: PayloadUnit) -> usize
 }
 
 // The number of the payload's units.
-fn payload_units(image: &[u8]) -> PayloadUnit
-    requires { HeaderOk image.now }
-    ensures { result.0 ≡ length (facts_in image.now).payload / 512 }
+fn payload_units(drive: Drive<'_>) -> PayloadUnit
+    ensures { result.0 ≡ length (facts_in drive.entry.image.now).payload / 512 }
 {
-    let start = unit_offset(header::facts::payload_at(image), PayloadUnit(0));
-    PayloadUnit(((image.len() - start) / 512) as u64)
+    let start = unit_offset(drive.head().payload_at(), PayloadUnit(0));
+    PayloadUnit(((drive.image.len() - start) / 512) as u64)
 }
 
 // Do the units from `from` on end within the payload? Nothing wraps.
 fn in_payload(total: PayloadUnit, from: PayloadUnit, units: PayloadUnit) -> bool
     ensures { result ≡ leb (from.0 + units.0) total.0 }
 {
-    if total.0 < units.0 {
-        return false;
-    }
-    from.0 <= total.0 - units.0
+    units.0 <= total.0 && from.0 <= total.0 - units.0
 }
 
 // Are len bytes the units' own number of bytes? Nothing wraps.
 fn holds_units(len: usize, units: PayloadUnit) -> bool
     ensures { result ≡ eqb len (512 * units.0) }
 {
-    if len % 512 != 0 {
-        return false;
-    }
-    (len / 512) as u64 == units.0
+    len % 512 == 0 && (len / 512) as u64 == units.0
 }
 
 // The checks of read and write that derive nothing, on a drive whose header is accepted.
+// (The arguments, here and below, are those of C's mivrozh_read and mivrozh_write, each judged by a check of its own.)
 fn range_check(
-    image: &[u8],
+    drive: Drive<'_>,
     key: &[u8],
     from: PayloadUnit,
     units: PayloadUnit,
     buffer: &[u8],
-) -> Refusal
-    requires { HeaderOk image.now }
-    ensures { number result ≡ first (range_checks (facts_in image.now) key.now from.0 units.0 buffer.now) }
+) -> Result<(), Refusal>
+    ensures { checked result ≡ first (range_checks (facts_in drive.entry.image.now) key.now from.0 units.0 buffer.now) }
 {
-    if !header::arguments::key_ok(image, key) {
-        return Refusal::KeyLength;
-    }
-    let inside = in_payload(payload_units(image), from, units);
-    let whole = holds_units(buffer.len(), units);
-    if !inside {
-        return Refusal::BadRange;
-    }
-    if !whole {
-        return Refusal::BadBuffer;
-    }
-    Refusal::Accepted
+    ensure(drive.key_ok(key), Refusal::KeyLength)?;
+    ensure(
+        in_payload(payload_units(drive), from, units),
+        Refusal::BadRange,
+    )?;
+    ensure(holds_units(buffer.len(), units), Refusal::BadBuffer)?;
+    Ok(())
 }
 
 // Units of the payload, deciphered into the buffer.
-fn read_units(buffer: &mut [u8], image: &[u8], key: &[u8], from: PayloadUnit, units: PayloadUnit)
-    requires { HeaderOk image.now × (first (range_checks (facts_in image.now) key.now from.0 units.0 buffer.old) ≡ 0) }
-    ensures { buffer.new ≡ bytes_read (facts_in image.now) key.now from.0 units.0 }
+fn read_units(
+    buffer: &mut [u8],
+    drive: Drive<'_>,
+    key: &[u8],
+    from: PayloadUnit,
+    units: PayloadUnit,
+)
+    requires { first (range_checks (facts_in drive.image.now) key.now from.0 units.0 buffer.old) ≡ 0 }
+    ensures { buffer.new ≡ bytes_read (facts_in drive.entry.image.now) key.now from.0 units.0 }
 {
-    let at = unit_offset(header::facts::payload_at(image), from);
+    let at = unit_offset(drive.head().payload_at(), from);
     let end = at + buffer.len();
-    octets::copy_into(buffer, 0, &image[at..end]);
+    octets::copy_into(buffer, 0, &drive.image[at..end]);
     xts::decrypt_all(buffer, from.0, key);
 }
 
 // The buffer, copied to units of the payload and enciphered there.
+// (HeaderOk stays a clause, as for slots::enable_slot.)
 fn write_units(image: &mut [u8], key: &[u8], from: PayloadUnit, units: PayloadUnit, buffer: &[u8])
     requires { HeaderOk image.old × (first (range_checks (facts_in image.old) key.now from.0 units.0 buffer.now) ≡ 0) }
-    ensures { image.new ≡ written (writes (facts_in image.old) (write key.now from.0 units.0 buffer.now))
-        image.old }
+    ensures { image.new ≡ written (writes (facts_in image.old) (write key.now from.0 units.0 buffer.now)) image.old }
 {
-    let at = unit_offset(header::facts::payload_at(image), from);
+    let at = unit_offset(Drive { image }.head().payload_at(), from);
     let end = at + buffer.len();
     octets::copy_into(image, at, buffer);
     xts::encrypt_all(&mut image[at..end], from.0, key);
@@ -105,36 +101,15 @@ pub fn read(
     from: PayloadUnit,
     units: PayloadUnit,
     buffer: &mut [u8],
-) -> Outcome
+) -> Result<u64, Refused>
     ensures { DoesRead built image.now (read key.now from.0 units.0 buffer.old)
-        (number result.refusal) buffer.old buffer.new result.values }
+        (answered result) buffer.old buffer.new (values_of result) }
 {
-    let h = header::check::header_check(image);
-    if header::number_of(h) != 0 {
-        return Outcome {
-            refusal: h,
-            values: 0,
-        };
-    }
-    let r = range_check(image, key, from, units, buffer);
-    if header::number_of(r) != 0 { // refused: the buffer stays as it was
-        return Outcome {
-            refusal: r,
-            values: 0,
-        };
-    }
-    let t = slots::key_matches(image, key);
-    if !t.matches { // 17: nothing is read
-        return Outcome {
-            refusal: Refusal::WrongKey,
-            values: t.values,
-        };
-    }
-    read_units(buffer, image, key, from, units);
-    Outcome {
-        refusal: r,
-        values: t.values, // of a read of 0 units too
-    }
+    let drive = Drive::check(image)?;
+    range_check(drive, key, from, units, buffer)?;
+    let values = slots::test_key(drive, key)?; // 17: nothing is read
+    read_units(buffer, drive, key, from, units);
+    Ok(values) // of a read of 0 units too
 }
 
 // Writes the buffer to units of the payload, from unit `from` on.
@@ -145,34 +120,13 @@ pub fn write(
     from: PayloadUnit,
     units: PayloadUnit,
     buffer: &[u8],
-) -> Outcome
+) -> Result<u64, Refused>
     ensures { Does built image.old (write key.now from.0 units.0 buffer.now)
-        (number result.refusal) image.new result.values }
+        (answered result) image.new (values_of result) }
 {
-    let h = header::check::header_check(image);
-    if header::number_of(h) != 0 {
-        return Outcome {
-            refusal: h,
-            values: 0,
-        };
-    }
-    let r = range_check(image, key, from, units, buffer);
-    if header::number_of(r) != 0 { // refused: the image stays as it was
-        return Outcome {
-            refusal: r,
-            values: 0,
-        };
-    }
-    let t = slots::key_matches(image, key);
-    if !t.matches { // 17: nothing is written
-        return Outcome {
-            refusal: Refusal::WrongKey,
-            values: t.values,
-        };
-    }
+    let drive = Drive::check(image)?;
+    range_check(drive, key, from, units, buffer)?;
+    let values = slots::test_key(drive, key)?; // 17: nothing is written
     write_units(image, key, from, units, buffer);
-    Outcome {
-        refusal: r,
-        values: t.values, // of a write of 0 units too
-    }
+    Ok(values) // of a write of 0 units too
 }

@@ -5,9 +5,11 @@ use Prim.Native.Nat.{ℕ, suc, ◌+◌, ◌*◌, ◌≤◌, ◌<◌}
 use native.Mathlib.Numerals.{add-one}
 use native.Mathlib.Omega.{arith}
 use lib.ListN.{length, get_or, take}
-use lib.Seq.{take_all, sets, sets-eq}
+use lib.Seq.{take_all}
 use Rattle.octets.specs.Octets.{zeros, big_endian}
+use Rattle.octets.specs.Splice.{splice}
 use Rattle.octets.specs.Pieces.{piece_count}
+use Rattle.octets.proofs.PiecesLaws.{piece_count_covers}
 use Rattle.digest.specs.Chaining.{Compression, digest, padding}
 use Rattle.sha_1.specs.Sha1 as sha1
 use Rattle.hash.specs.declared.Hash.{Hash}
@@ -19,7 +21,6 @@ use Rattle.lanes.specs.Lanes.{lane}
 use Rattle.lanes.proofs.LanesLaws.{four, lane-four, lane-five}
 use Rattle.pbkdf2.specs.Pbkdf2.{laid, pbkdf2}
 use Rattle.pbkdf2.specs.Words.{padding_words, last_block, block_bytes, four_blocks, Holds}
-use Rattle.pbkdf2.proofs.Pbkdf2Laws.{piece_count_covers}
 use Rattle.pbkdf2.proofs.Rfc8018Laws.{rfc_8018}
 use Rattle.pbkdf2.proofs.WordsLaws.{F-block_words}
 
@@ -31,11 +32,9 @@ last_words u =
     get_or u 0 [] ∷ get_or u 1 [] ∷ get_or u 2 [] ∷ get_or u 3 [] ∷ get_or u 4 [] ∷ four 0x80000000
     ∷ four 0 ∷ four 0 ∷ four 0 ∷ four 0 ∷ four 0 ∷ four 0 ∷ four 0 ∷ four 0 ∷ four 0 ∷ four 672 ∷ []
 
-pub last-lane : (i : ℕ) (w u : List (List ℕ)) → i < 4 → length w ≡ 96 → length u ≡ 5 → take 16 (lane i (sets w 0 (last_words u))) ≡ last_block (lane i u)
-unfolding last_block padding_words zeros
-last-lane i w u h l lu =
-    ap (λ (x : List (List ℕ)). take 16 (lane i x)) (sets-eq (last_words u) w 0 (omega arith))
-    ∙ rw (lane-four 0x80000000 i h, lane-four 0 i h, lane-four 672 i h) (ap last_block (lane-five i u lu))
+pub last-lane : (i : ℕ) (w u : List (List ℕ)) → i < 4 → length u ≡ 5 → take 16 (lane i (splice w 0 (last_words u))) ≡ last_block (lane i u)
+unfolding last_block padding_words zeros splice
+last-lane i w u h lu = rw (lane-four 0x80000000 i h, lane-four 0 i h, lane-four 672 i h) (ap last_block (lane-five i u lu))
 
 -- ---- blocks of the derived key
 

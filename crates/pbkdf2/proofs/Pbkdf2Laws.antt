@@ -2,7 +2,7 @@
 use mathlib.Core.Path.{◌≡◌, refl, sym, ap, ap₂, ◌∙◌}
 use mathlib.Core.List.{List, ◌++◌}
 use Prim.Native.Nat.{ℕ, zero, suc, ◌+◌, ◌-◌, ◌*◌, ◌^◌, ◌≤◌, ◌<◌, min}
-use native.Mathlib.Nat.{mul-suc, mul-add, mul_comm, mul-le-mul_right, div-mul-le_self, lt-div-mul-add}
+use native.Mathlib.Nat.{mul-suc, mul-add, mul_comm, mul-le-mul_right}
 use native.Mathlib.Omega.{arith}
 use lib.ListN.{length, take, length-take}
 use lib.Seq.{take_all, take-append-add}
@@ -11,7 +11,7 @@ use Rattle.octets.specs.Splice.{splice}
 use Rattle.octets.specs.Pieces.{piece_count}
 use Rattle.octets.proofs.OctetsLaws.{str_cast, str_append, str_crop, str_xors}
 use Rattle.octets.proofs.SpliceLaws.{length-splice, take-splice}
-use Rattle.octets.proofs.PiecesLaws.{take_min}
+use Rattle.octets.proofs.PiecesLaws.{take_min, piece_count_covers, piece_inside}
 use Rattle.digest.specs.Digest.{Digest, LawfulDigest}
 use Rattle.hmac.specs.Hmac.{hmac}
 use Rattle.hmac.proofs.HmacLaws.{str_hmac}
@@ -53,17 +53,6 @@ str_folded : (D : ℕ) (f : List ℕ → List ℕ) (u : List ℕ) (n : ℕ) → 
 unfolding folded iterated
 str_folded D f u zero hf h = h
 str_folded D f u (suc n) hf h = str_xors (f (iterated f u n)) (str_folded D f u n hf h) (hf (iterated f u n)).byte
-
--- the pieces are enough
-pub piece_count_covers : (D n : ℕ) → 1 ≤ D → n ≤ D * piece_count D n
-piece_count_covers D n h = omega (arith, lt-div-mul-add {a = n + (D - 1)} {b = D} h, mul_comm D (piece_count D n))
-
--- a piece begins before the end
-pub piece_inside : (D n j : ℕ) → 1 ≤ D → j < piece_count D n → D * j < n
-piece_inside D n j h k =
-    let a : (j + 1) * D ≤ piece_count D n * D = mul-le-mul_right D (let e : j + 1 ≤ piece_count D n = omega arith in e) in
-    let b : piece_count D n * D ≤ n + (D - 1) = div-mul-le_self (n + (D - 1)) D in
-    omega (arith, mul_comm D j)
 
 -- numbers of four bytes are enough for blocks of at least 20
 few-blocks_by : (D n k : ℕ) → 20 ≤ D → n ≤ 20 * (2 ^ 32 - 1) → k ≤ piece_count D n → k < 2 ^ 32

@@ -10,7 +10,8 @@ use Rattle.octets.specs.Pieces.{piece_count}
 use Rattle.digest.specs.Digest.{Digest, LawfulDigest}
 use Rattle.pbkdf2.specs.Pbkdf2.{F, laid, pbkdf2}
 use Rattle.pbkdf2.specs.Rfc8018.{Rfc8018}
-use Rattle.pbkdf2.proofs.Pbkdf2Laws.{piece_count_covers, piece_inside, str_laid}
+use Rattle.octets.proofs.PiecesLaws.{piece_count_covers, piece_inside}
+use Rattle.pbkdf2.proofs.Pbkdf2Laws.{str_laid}
 use Rattle.pbkdf2.proofs.CountLaws.{block_is}
 
 laid_same : (T U : ℕ → List ℕ) (n : ℕ) → ((i : ℕ) → 1 ≤ i → i ≤ n → T i ≡ U i) → laid T n ≡ laid U n

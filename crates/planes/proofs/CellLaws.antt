@@ -26,15 +26,15 @@ cells_more f l q₀ q x y r p h ex ey er d =
     subst (λ (s : List ℕ). Cells f q₀ (p + 1) s) (sym er) (cell_more f l q₀ q y p h d (ey ∙ ap (f ones) ex))
 
 mapped : (f : ℕ → List ℕ → List ℕ) (g : ℕ → ℕ) → ((j : ℕ) (x : List ℕ) → j < 32 → length x ≡ 8 → lane_byte j (f ones x) ≡ g (lane_byte j x))
-    → (q r : List ℕ) → Cells f q 16 r → (j : ℕ) → j < 32 → state j r ≡ map g (state j q)
+    → (q r : List ℕ) → ((p : ℕ) → p < 16 → cell p r ≡ f ones (cell p q)) → (j : ℕ) → j < 32 → state j r ≡ map g (state j q)
 unfolding state
 mapped f g e q r d j h =
-    same-places (λ p. lane_byte j (cell p r)) (λ p. g (lane_byte j (cell p q))) (λ p hp. ap (lane_byte j) (d.new p hp) ∙ e j (cell p q) h refl)
+    same-places (λ p. lane_byte j (cell p r)) (λ p. g (lane_byte j (cell p q))) (λ p hp. ap (lane_byte j) (d p hp) ∙ e j (cell p q) h refl)
 
-pub subbed : (q r : List ℕ) → Cells sbox_of q 16 r → (j : ℕ) → j < 32 → state j r ≡ sub_bytes (state j q)
+pub subbed : (q r : List ℕ) → ((p : ℕ) → p < 16 → cell p r ≡ sbox_of ones (cell p q)) → (j : ℕ) → j < 32 → state j r ≡ sub_bytes (state j q)
 unfolding sub_bytes
 subbed = mapped sbox_of sub sbox_lanes
 
-pub unsubbed : (q r : List ℕ) → Cells inv_sbox_of q 16 r → (j : ℕ) → j < 32 → state j r ≡ inv_sub_bytes (state j q)
+pub unsubbed : (q r : List ℕ) → ((p : ℕ) → p < 16 → cell p r ≡ inv_sbox_of ones (cell p q)) → (j : ℕ) → j < 32 → state j r ≡ inv_sub_bytes (state j q)
 unfolding inv_sub_bytes
 unsubbed = mapped inv_sbox_of inv_sub inv_sbox_lanes

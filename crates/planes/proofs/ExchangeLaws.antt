@@ -1,18 +1,12 @@
 -- One exchange of the transposition, row by row.
 use mathlib.Core.Path.{◌≡◌, refl, ap, ap₂, ◌∙◌}
-use mathlib.Core.List.{List, [], ◌∷◌}
+use mathlib.Core.List.{List}
 use Prim.Native.Nat.{ℕ, zero, suc, ◌+◌, ◌*◌, ◌/◌, ◌%◌, ◌<◌}
 use native.Mathlib.Omega.{arith}
 use lib.ListN.{get_or}
 use Rattle.aes.specs.Planes.{exchanged, Exchanged}
-use Rattle.planes.specs.Rows.{row_of, put_row}
+use Rattle.planes.specs.Rows.{row_of, put_row, exchanged_row}
 use Rattle.planes.proofs.RowLaws.{Rows, rows_more, row_word, rows-word}
-
--- two rows with bits exchanged: the first of them, or the second
-abbrev exchanged_row : ℕ → ℕ → ℕ → List ℕ → List ℕ → List ℕ
-exchanged_row h s m x y =
-    exchanged h s m (get_or x 0 0) (get_or y 0 0) ∷ exchanged h s m (get_or x 1 0) (get_or y 1 0) ∷ exchanged h s m (get_or x 2 0) (get_or y 2 0)
-    ∷ exchanged h s m (get_or x 3 0) (get_or y 3 0) ∷ []
 
 exchanged-word : (h s m c : ℕ) (x y : List ℕ) → c < 4 → get_or (exchanged_row h s m x y) c 0 ≡ exchanged h s m (get_or x c 0) (get_or y c 0)
 exchanged-word h s m zero x y l = refl
@@ -39,14 +33,14 @@ module _ (s m : ℕ) (q : List ℕ) where
           ap₂ (exchanged_row k s m) ea eb
           ∙ ap₂ (λ (i j : ℕ). exchanged_row i s m (row_of j q) (row_of (j + 16) q)) ek ex
 
-  pub all_exchanged : (d₀ r : List ℕ) → Rows halves d₀ 32 r → Exchanged s m q r
-  all_exchanged d₀ r d v h =
+  pub all_exchanged : (r : List ℕ) → ((g : ℕ) → g < 32 → row_of g r ≡ halves g) → Exchanged s m q r
+  all_exchanged r d v h =
       let g : ℕ = v / 4 in
       let c : ℕ = v % 4 in
       let hc : c < 4 = omega arith in
       let e : g / 2 ≡ v / 8 = omega arith in
       let f : 4 * (v / 8 + 16) + c ≡ 4 * (v / 8) + c + 64 = omega arith in
-      rows-word halves d₀ r d g c v (omega arith) hc (omega arith)
+      rows-word halves r d g c v (omega arith) hc (omega arith)
       ∙ exchanged-word (g % 2) s m c (row_of (g / 2) q) (row_of (g / 2 + 16) q) hc
       ∙ ap₂ (exchanged (g % 2) s m) (row_word (g / 2) c q hc) (row_word (g / 2 + 16) c q hc)
       ∙ ap (λ (t : ℕ). exchanged (g % 2) s m (get_or q (4 * t + c) 0) (get_or q (4 * (t + 16) + c) 0)) e

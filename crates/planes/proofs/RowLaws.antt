@@ -44,6 +44,6 @@ row_word g c q h =
     elem_at row g 0 c 4 q h ∙ ap (λ (m : ℕ). get_or q m 0) (ap (row g) z ∙ row_is g c)
 
 -- after all rows, each word
-pub rows-word : (F : ℕ → List ℕ) (q₀ r : List ℕ) → Rows F q₀ 32 r → (g c v : ℕ) → g < 32 → c < 4 → v ≡ 4 * g + c → get_or r v 0 ≡ get_or (F g) c 0
-rows-word F q₀ r d g c v hg hc e =
-    ap (λ (m : ℕ). get_or r m 0) e ∙ sym (row_word g c r hc) ∙ ap (λ (x : List ℕ). get_or x c 0) (d.new g hg)
+pub rows-word : (F : ℕ → List ℕ) (r : List ℕ) → ((g : ℕ) → g < 32 → row_of g r ≡ F g) → (g c v : ℕ) → g < 32 → c < 4 → v ≡ 4 * g + c → get_or r v 0 ≡ get_or (F g) c 0
+rows-word F r d g c v hg hc e =
+    ap (λ (m : ℕ). get_or r m 0) e ∙ sym (row_word g c r hc) ∙ ap (λ (x : List ℕ). get_or x c 0) (d g hg)

@@ -1,7 +1,7 @@
 -- SHIFTROWS and its inverse with a round key: the rows of each plane turned, as the state in each lane sees it.
 use mathlib.Core.Path.{◌≡◌, refl, sym, ap, ap₂, ◌∙◌}
-use mathlib.Core.List.{List, ◌∷◌, map}
-use Prim.Native.Nat.{ℕ, zero, suc, ◌+◌, ◌-◌, ◌*◌, ◌/◌, ◌%◌, ◌<◌}
+use mathlib.Core.List.{List, [], ◌∷◌, map}
+use Prim.Native.Nat.{ℕ, zero, suc, ◌+◌, ◌*◌, ◌/◌, ◌%◌, ◌<◌}
 use native.Mathlib.Nat.{mod-lt, zero-lt-suc}
 use native.Mathlib.Omega.{arith}
 use lib.Bits.{bit_xor}
@@ -15,15 +15,9 @@ use Rattle.aes.proofs.PlaneLaws.{same-places}
 use Rattle.planes.specs.Rows.{row_of, put_row, turned_sum}
 use Rattle.planes.proofs.RowLaws.{Rows, rows_more, row_word, rows-word}
 
--- by how many words the row r is turned to the left: SHIFTROWS, its inverse, and not at all
-abbrev pub left : ℕ → ℕ
-left r = r
-
-abbrev pub right : ℕ → ℕ
-right r = (4 - r) % 4
-
-abbrev pub still : ℕ → ℕ
-still r = 0
+-- by how many words each row is turned to the left, by a list of four numbers
+abbrev pub by : List ℕ → ℕ → ℕ
+by m r = get_or m r 0
 
 -- where the byte at p comes from, row r being turned by a r
 abbrev from : (ℕ → ℕ) → ℕ → ℕ
@@ -62,7 +56,7 @@ module _ (a b : ℕ → ℕ) (q₀ k : List ℕ) where
       (row_more (4 * i + 1) (4 * i + 2) 1 x y (omega arith) (omega arith) (omega arith) ey
       (row_more (4 * i) (4 * i + 1) 0 q x (omega arith) (omega arith) (omega arith) ex d)))
 
-  module _ (r : List ℕ) (d : Rows turned_row q₀ 32 r) where
+  module _ (r : List ℕ) (d : (g : ℕ) → g < 32 → row_of g r ≡ turned_row g) where
     word : (i p v e f : ℕ) → i < 8 → p < 16 → v ≡ p + 16 * i → e ≡ from a p + 16 * i → f ≡ from b p + 16 * i
         → get_or r v 0 ≡ bit_xor (get_or q₀ e 0) (get_or k f 0)
     word i p v e f hi hp ev ee ef =
@@ -74,7 +68,7 @@ module _ (a b : ℕ → ℕ) (q₀ k : List ℕ) where
         let hn : n < 4 = mod-lt (b (p / 4) + p % 4) (zero-lt-suc 3) in
         let em : 4 * g + m ≡ e = omega arith in
         let en : 4 * g + n ≡ f = omega arith in
-        rows-word turned_row q₀ r d g (p % 4) v (omega arith) (omega arith) (omega arith)
+        rows-word turned_row r d g (p % 4) v (omega arith) (omega arith) (omega arith)
         ∙ sum-word (a (g % 4)) (b (g % 4)) (p % 4) (row_of g q₀) (row_of g k) (omega arith)
         ∙ ap (λ (s : ℕ). bit_xor (get_or (row_of g q₀) ((a s + p % 4) % 4) 0) (get_or (row_of g k) ((b s + p % 4) % 4) 0)) t
         ∙ ap₂ bit_xor (row_word g m q₀ hm ∙ ap (λ (s : ℕ). get_or q₀ s 0) em) (row_word g n k hn ∙ ap (λ (s : ℕ). get_or k s 0) en)
@@ -95,10 +89,22 @@ module _ (a b : ℕ → ℕ) (q₀ k : List ℕ) where
         same-places (λ p. lane_byte j (cell p r)) (λ p. bit_xor (lane_byte j (cell (from a p) q₀)) (lane_byte j (cell (from b p) k)))
         (λ p h. ap (lane_byte j) (turned-cell p h) ∙ xor-byte j (cell (from a p) q₀) (cell (from b p) k) refl)
 
-pub shifted : (q k r : List ℕ) → Rows (turned_row left left q k) q 32 r → (j : ℕ) → state j r ≡ shift_rows (xors (state j q) (state j k))
-unfolding state shift_rows xors ◌⊕◌
-shifted q k r d j = turned-state left left q k r d j
+-- SHIFTROWS
+abbrev left : List ℕ
+left = 0 ∷ 1 ∷ 2 ∷ 3 ∷ []
 
-pub unshifted : (q k r : List ℕ) → Rows (turned_row right still q k) q 32 r → (j : ℕ) → state j r ≡ xors (inv_shift_rows (state j q)) (state j k)
+-- its inverse
+abbrev right : List ℕ
+right = 0 ∷ 3 ∷ 2 ∷ 1 ∷ []
+
+-- not at all
+abbrev still : List ℕ
+still = 0 ∷ 0 ∷ 0 ∷ 0 ∷ []
+
+pub shifted : (q k r : List ℕ) → ((g : ℕ) → g < 32 → row_of g r ≡ turned_row (by left) (by left) q k g) → (j : ℕ) → state j r ≡ shift_rows (xors (state j q) (state j k))
+unfolding state shift_rows xors ◌⊕◌
+shifted q k r d j = turned-state (by left) (by left) q k r d j
+
+pub unshifted : (q k r : List ℕ) → ((g : ℕ) → g < 32 → row_of g r ≡ turned_row (by right) (by still) q k g) → (j : ℕ) → state j r ≡ xors (inv_shift_rows (state j q)) (state j k)
 unfolding state inv_shift_rows xors ◌⊕◌
-unshifted q k r d j = turned-state right still q k r d j
+unshifted q k r d j = turned-state (by right) (by still) q k r d j

@@ -1,6 +1,7 @@
 -- Parts of 128 words, read and stored: a row is four neighbouring words, and row 4 i + r has bit i of the bytes of the state's row r.
 use Rattle.std.specs.Prelude.{List, [], ◌∷◌, ℕ, ◌+◌, ◌*◌, ◌%◌, get_or, set}
 use Rattle.std.specs.Int.Bits.{bit_xor}
+use Rattle.aes.specs.Planes.{exchanged}
 
 -- row g
 abbrev pub row_of : ℕ → List ℕ → List ℕ
@@ -21,3 +22,9 @@ abbrev pub put_cell : ℕ → List ℕ → List ℕ → List ℕ
 put_cell p r q =
     set (set (set (set (set (set (set (set q p (get_or r 0 0)) (p + 16) (get_or r 1 0)) (p + 32) (get_or r 2 0)) (p + 48) (get_or r 3 0))
     (p + 64) (get_or r 4 0)) (p + 80) (get_or r 5 0)) (p + 96) (get_or r 6 0)) (p + 112) (get_or r 7 0)
+
+-- two rows with bits exchanged: the first of them, or the second
+abbrev pub exchanged_row : ℕ → ℕ → ℕ → List ℕ → List ℕ → List ℕ
+exchanged_row h s m x y =
+    exchanged h s m (get_or x 0 0) (get_or y 0 0) ∷ exchanged h s m (get_or x 1 0) (get_or y 1 0) ∷ exchanged h s m (get_or x 2 0) (get_or y 2 0)
+    ∷ exchanged h s m (get_or x 3 0) (get_or y 3 0) ∷ []

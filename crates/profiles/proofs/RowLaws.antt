@@ -14,11 +14,12 @@ use Rattle.octets.specs.Octets.{same, zeros, padded}
 use Rattle.octets.proofs.BoolLaws.{and_split, and_no, and_yes, or_yes, or_no}
 use Rattle.rules.specs.Checks.{every}
 use Rattle.rules.specs.Profiles as rules
-use Rattle.rules.proofs.EveryLaws.{drop_at, every-at, get_d_map_in}
-use Rattle.hash.specs.declared.Hash.TheVariants.{Sha1}
-use Rattle.profiles.specs.Rows.{hash_of}
+use Rattle.profiles.specs.Rows.{name_of, hash_of, aes_xts_row, rows}
 use Rattle.profiles.specs.declared.Profile.{Profile}
-use Rattle.profiles.specs.Records.{IsProfile, same_text, has_row}
+use Rattle.profiles.specs.Records.{IsProfile, IsRow, number_found, same_text, has_row}
+use Rattle.std.specs.Prelude.{Option, Some, is_some, IfSome, nat_eq}
+use Rattle.std.specs.List.{find}
+use Rattle.std.proofs.lemmas.Option.{IfSome_then}
 
 -- ---- a turn of the comparison, and its end
 
@@ -85,7 +86,7 @@ same_text-padded name field k n = by_suc name field k n ∙ ap (λ (m : ℕ). sa
 -- ---- a row in code
 
 -- a row with its names padded as in a header
-abbrev coded : rules.Profile → Profile
+abbrev pub coded : rules.Profile → Profile
 coded p =
     record {
       number = p.number;
@@ -124,76 +125,77 @@ fits-is cipher mode hash L p h =
     ap₂ ◌&&◌ (holds-is p.cipher cipher a.0)
     (ap₂ ◌&&◌ (holds-is p.mode mode b.0) (ap₂ ◌&&◌ (holds-is p.hash hash b.1) refl))
 
--- ---- the lookups, a turn of each loop and its end
+-- ---- the lookups
 
--- beyond the table
-abbrev no_row : Profile
-no_row =
-    record { number = 0; cipher = []; mode = []; hash = []; digest = Sha1; key_bytes = 0; min_slot_count = 0; min_checksum_count = 0 }
+either : (Q : Profile → Type 0) (b : Bool) (r : Profile) (o : Option Profile) → (b ≡ true → Q r) → IfSome o Q → IfSome (cond b (Some r) o) Q
+either Q true r o h k = h refl
+either Q false r o h k = k
 
-module _ (rows : List rules.Profile) where
-  -- the row at index i, as the code has it
-  abbrev row_at : ℕ → Profile
-  row_at i = get_or (map coded rows) i no_row
+-- Q holds of each row
+abbrev each : (Profile → Type 0) → List Profile → Type 0
+each Q [] = Unit {0}
+each Q (x ∷ xs) = Q x × each Q xs
 
-  row_is : (i : ℕ) → i < length rows → row_at i ≡ coded (get_or rows i rules.no_profile)
-  row_is i h = get_d_map_in coded rows i rules.no_profile no_row h
+-- what is found passes the test, and what holds of each row holds of it
+found_is : (t : Profile → Bool) (Q : Profile → Type 0) (xs : List Profile) → each Q xs → IfSome (find t xs) (λ r. (t r ≡ true) × Q r)
+found_is t Q [] a = tt
+found_is t Q (x ∷ xs) a = either (λ r. (t r ≡ true) × Q r) (t x) x (find t xs) (λ e. (e, a.0)) (found_is t Q xs a.1)
 
-  rest : (i : ℕ) → i < length rows → drop i rows ≡ get_or rows i rules.no_profile ∷ drop (i + 1) rows
-  rest i h = drop_at rows i rules.no_profile h
+some_or : (b : Bool) (r : Profile) (o : Option Profile) (k : Bool) → is_some o ≡ k → is_some (cond b (Some r) o) ≡ (b || k)
+some_or true r o k e = refl
+some_or false r o k e = e
 
-  -- by a header
-  module _ (ok : every names_ok rows ≡ true) (cipher mode hash : List ℕ) (L : ℕ) where
-    abbrev found_in : List rules.Profile → ℕ
-    found_in ps = rules.number_of ps cipher mode hash L
+-- by a number
+pub with_number-known : (ps : List rules.Profile) (n : ℕ) → is_some (find (λ r. nat_eq r.number n) (map coded ps)) ≡ rules.known ps n
+unfolding rules.known
+with_number-known [] n = refl
+with_number-known (p ∷ ps) n = some_or (nat_eq p.number n) (coded p) (find (λ r. nat_eq r.number n) (map coded ps)) (rules.known ps n) (with_number-known ps n)
 
-    turn : (i : ℕ) → i < length rows → found_in (drop i rows) ≡ cond (has_row cipher mode hash L (row_at i)) (row_at i).number (found_in (drop (i + 1) rows))
-    unfolding rules.number_of
-    turn i h =
-        let p : rules.Profile = get_or rows i rules.no_profile in
-        let b : has_row cipher mode hash L (row_at i) ≡ rules.fits p cipher mode hash L
-        = ap (has_row cipher mode hash L) (row_is i h) ∙ fits-is cipher mode hash L p (every-at names_ok rules.no_profile rows i ok h) in
-        ap found_in (rest i h) ∙ (λ j. cond (sym b j) (sym (row_is i h) j).number (found_in (drop (i + 1) rows)))
+number_if : (b : Bool) (r : Profile) (o : Option Profile) → number_found (cond b (Some r) o) ≡ cond b r.number (number_found o)
+number_if true r o = refl
+number_if false r o = refl
 
-    pub header-found : (i n : ℕ) → i < length rows → has_row cipher mode hash L (row_at i) ≡ true → found_in (drop i rows) ≡ n → (row_at i).number ≡ n
-    header-found i n h b e = sym (turn i h ∙ rw b) ∙ e
+-- by a header
+header-number : (ps : List rules.Profile) → every names_ok ps ≡ true → (cipher mode hash : List ℕ) (L : ℕ)
+    → number_found (find (has_row cipher mode hash L) (map coded ps)) ≡ rules.number_of ps cipher mode hash L
+unfolding every rules.number_of
+header-number [] ok cipher mode hash L = refl
+header-number (p ∷ ps) ok cipher mode hash L =
+    let a = and_split (names_ok p) (every names_ok ps) ok in
+    number_if (has_row cipher mode hash L (coded p)) (coded p) (find (has_row cipher mode hash L) (map coded ps))
+    ∙ ap₂ (λ b k. cond b p.number k) (fits-is cipher mode hash L p a.0) (header-number ps a.1 cipher mode hash L)
 
-    pub header-next : (i n : ℕ) → i < length rows → has_row cipher mode hash L (row_at i) ≡ false → found_in (drop i rows) ≡ n → found_in (drop (i + 1) rows) ≡ n
-    header-next i n h b e = sym (turn i h ∙ rw b) ∙ e
+-- ---- the built table
 
-    pub header_none : (i n : ℕ) → length rows ≤ i → found_in (drop i rows) ≡ n → 0 ≡ n
-    unfolding rules.number_of
-    header_none i n h e = sym (ap found_in (drop_of_length-le rows {i = i} h)) ∙ e
+names-ok : every names_ok rows ≡ true
+unfolding every name_of hash_of aes_xts_row rows
+names-ok = refl
 
-  -- by a number
-  module _ (n : ℕ) where
-    number_is : (i : ℕ) → i < length rows → (row_at i).number ≡ (get_or rows i rules.no_profile).number
-    number_is i h = ap (λ (p : Profile). p.number) (row_is i h)
+all_rows : each (λ r. IsRow r.number r) (map coded rows)
+unfolding aes_xts_row rows rules.known rules.profile_at
+all_rows = (
+  record { known_is = refl; profile_is = coded-is (aes_xts_row 1 32) },
+  (
+    record { known_is = refl; profile_is = coded-is (aes_xts_row 2 64) },
+    (
+      record { known_is = refl; profile_is = coded-is (aes_xts_row 3 32) },
+      (
+        record { known_is = refl; profile_is = coded-is (aes_xts_row 4 64) },
+        tt,
+      ),
+    ),
+  ),
+)
 
-    pub number-found : (i : ℕ) (q : Bool) → i < length rows → (row_at i).number ≡ n → rules.known (drop i rows) n ≡ q → true ≡ q
-    unfolding rules.known
-    number-found i q h b e =
-        or_yes _ (rules.known (drop (i + 1) rows) n) (eq-eqb _ n (sym (number_is i h) ∙ b)) ∙ sym (ap (λ ps. rules.known ps n) (rest i h)) ∙ e
+pub with_number-row : (n : ℕ) → IfSome (find (λ r. nat_eq r.number n) (map coded rows)) (IsRow n)
+with_number-row n =
+    IfSome_then (find (λ r. nat_eq r.number n) (map coded rows)) (found_is (λ r. nat_eq r.number n) (λ r. IsRow r.number r) (map coded rows) all_rows)
+    (λ r h. subst (λ k. IsRow k r) (eqb-true r.number n h.0) h.1)
 
-    pub number-next : (i : ℕ) (q : Bool) → i < length rows → (row_at i).number ≢ n → rules.known (drop i rows) n ≡ q → rules.known (drop (i + 1) rows) n ≡ q
-    unfolding rules.known
-    number-next i q h b e =
-        or_no _ (rules.known (drop (i + 1) rows) n) _ (ne_eqb _ n (λ c. b (number_is i h ∙ c))) refl ∙ sym (ap (λ ps. rules.known ps n) (rest i h)) ∙ e
+pub of_header-number : (cipher mode hash : List ℕ) (L : ℕ) → number_found (find (has_row cipher mode hash L) (map coded rows)) ≡ rules.number_of rows cipher mode hash L
+of_header-number = header-number rows names-ok
 
-    pub number_none : (i : ℕ) (q : Bool) → length rows ≤ i → rules.known (drop i rows) n ≡ q → false ≡ q
-    unfolding rules.known
-    number_none i q h e = sym (ap (λ ps. rules.known ps n) (drop_of_length-le rows {i = i} h)) ∙ e
-
-    -- the row that the rules find is not passed by
-    pub row-found : (i : ℕ) (p : rules.Profile) → i < length rows → (row_at i).number ≡ n → rules.profile_at (drop i rows) n ≡ p → IsProfile (row_at i) p
-    unfolding rules.profile_at
-    row-found i p h b e =
-        let q : rules.Profile = get_or rows i rules.no_profile in
-        let f : q ≡ p = sym (ap (λ ps. rules.profile_at ps n) (rest i h) ∙ rw (eq-eqb q.number n (sym (number_is i h) ∙ b))) ∙ e in
-        subst (λ r. IsProfile r p) (sym (row_is i h)) (subst (IsProfile (coded q)) f (coded-is q))
-
-    pub row_next : (i : ℕ) (p : rules.Profile) → i < length rows → (row_at i).number ≢ n → rules.profile_at (drop i rows) n ≡ p → rules.profile_at (drop (i + 1) rows) n ≡ p
-    unfolding rules.profile_at
-    row_next i p h b e =
-        let q : rules.Profile = get_or rows i rules.no_profile in
-        sym (ap (λ ps. rules.profile_at ps n) (rest i h) ∙ rw (ne_eqb q.number n (λ c. b (number_is i h ∙ c)))) ∙ e
+pub of_header-row : (cipher mode hash : List ℕ) (L : ℕ) → IfSome (find (has_row cipher mode hash L) (map coded rows)) (λ r. IsRow r.number r)
+of_header-row cipher mode hash L =
+    IfSome_then (find (has_row cipher mode hash L) (map coded rows)) (found_is (has_row cipher mode hash L) (λ r. IsRow r.number r) (map coded rows) all_rows)
+    (λ r h. h.1)

@@ -1,14 +1,17 @@
 // The table of profiles in code, looked up by number and by a header's fields.
 #![tactic(auto)]
 
-ghost use Rattle.std.specs.Prelude.{◌≡◌, true, length};
+ghost use Rattle.std.specs.Prelude.{◌≡◌, true, length, is_some, IfSome};
+ghost use Rattle.std.specs.List.{find};
 ghost use Rattle.rules.specs.Profiles.{number_of, known, profile_at};
 ghost use Rattle.profiles.specs.Rows.{hash_of, rows};
-ghost use Rattle.profiles.specs.Records.{IsProfile, same_text, has_row};
+ghost use Rattle.profiles.specs.Records.{IsProfile, IsRow, number_found, same_text, has_row};
 
 use hash::Hash;
 
 // A row of the table of profiles. The names are padded with zeros as in a header; digest is the hash that hash names.
+// (The number is 01's, by which C's mivrozh_format asks: with_number's clause known speaks of every number, so it is no enum.)
+// (01, "Forms for each place", asks for fixed byte strings as names: so they are arrays, and no texts of their own lengths.)
 #[derive(Clone, Copy)]
 pub struct Profile {
     pub number: u8,
@@ -73,70 +76,71 @@ const PROFILES: [Profile; 4] = [
 ];
 
 // Do two text fields hold one text? A text ends at its first zero byte; a field with none holds nothing.
+// (No == serves: what stands behind the zero byte doesn't count.)
 fn same_text(field: &[u8], name: &[u8]) -> bool
     requires { length field.now ≡ length name.now }
     ensures { result ≡ same_text field.now name.now }
 {
-    let mut i: usize = 0;
-    while i < field.len() {
-        if field[i] != name[i] {
+    for (i, b) in name.iter().enumerate() {
+        if field[i] != *b {
             return false;
         }
-        if field[i] == 0 {
+        if *b == 0 {
             return true;
         }
-        i += 1;
     }
     false // no zero byte
 }
 
-// Has a header with these text fields and key bytes this profile?
-fn has_row(cipher: &[u8; 32], mode: &[u8; 32], hash: &[u8; 32], key_bytes: u32, p: Profile) -> bool
-    ensures { result ≡ has_row cipher.now mode.now hash.now key_bytes p }
-{
-    let cipher_name = p.cipher;
-    if !same_text(cipher, &cipher_name) {
-        return false;
+impl Profile {
+    // Has a header with these text fields and key bytes this profile?
+    // (The four fields stay four arguments, here and below, as of the rules' number_of, which of_header's clause names.)
+    #[tactic(auto, unfolding(crate::specs::Records::has_row))]
+    fn has_row(&self, cipher: &[u8; 32], mode: &[u8; 32], hash: &[u8; 32], key_bytes: u32) -> bool
+        ensures { result ≡ has_row cipher.now mode.now hash.now key_bytes self.now }
+    {
+        same_text(cipher, &self.cipher)
+            && same_text(mode, &self.mode)
+            && same_text(hash, &self.hash)
+            && key_bytes == self.key_bytes
     }
-    let mode_name = p.mode;
-    if !same_text(mode, &mode_name) {
-        return false;
-    }
-    let hash_name = p.hash;
-    if !same_text(hash, &hash_name) {
-        return false;
-    }
-    key_bytes == p.key_bytes
 }
 
-// The number of the profile that a header with these text fields and key bytes has, or 0.
-pub fn number_of(cipher: &[u8; 32], mode: &[u8; 32], hash: &[u8; 32], key_bytes: u32) -> u8
-    ensures { result ≡ number_of rows cipher.now mode.now hash.now key_bytes }
+// The first of these rows that a header with these text fields and key bytes has.
+fn first_fit(
+    table: &[Profile],
+    cipher: &[u8; 32],
+    mode: &[u8; 32],
+    hash: &[u8; 32],
+    key_bytes: u32,
+) -> Option<Profile>
+    ensures { result ≡ find (has_row cipher.now mode.now hash.now key_bytes) table.now }
 {
-    let mut i: usize = 0;
-    while i < PROFILES.len() {
-        let p = PROFILES[i];
-        if has_row(cipher, mode, hash, key_bytes, p) {
-            return p.number;
-        }
-        i += 1;
-    }
-    0
+    table
+        .iter()
+        .copied()
+        .find(|p| p.has_row(cipher, mode, hash, key_bytes))
 }
 
-// Has the table a profile with this number?
-pub fn is_known(number: u8) -> bool
-    ensures { result ≡ known rows number }
+// The profile that a header with these text fields and key bytes has.
+pub fn of_header(
+    cipher: &[u8; 32],
+    mode: &[u8; 32],
+    hash: &[u8; 32],
+    key_bytes: u32,
+) -> Option<Profile>
+    ensures number { number_found result ≡ number_of rows cipher.now mode.now hash.now key_bytes }
+    ensures row { IfSome result (λ p. IsRow p.number p) }
 {
-    let mut i: usize = 0;
-    while i < PROFILES.len() {
-        let p = PROFILES[i];
-        if p.number == number {
-            return true;
-        }
-        i += 1;
-    }
-    false
+    first_fit(&PROFILES, cipher, mode, hash, key_bytes)
+}
+
+// The profile with this number.
+pub fn with_number(number: u8) -> Option<Profile>
+    ensures known { is_some result ≡ known rows number }
+    ensures row { IfSome result (IsRow number) }
+{
+    PROFILES.iter().copied().find(|p| p.number == number)
 }
 
 // The profile with this number, which the table has.
@@ -144,25 +148,15 @@ pub fn profile_at(number: u8) -> Profile
     requires { known rows number ≡ true }
     ensures { IsProfile result (profile_at rows number) }
 {
-    let mut i: usize = 0;
-    while i < PROFILES.len() {
-        let p = PROFILES[i];
-        if p.number == number {
-            return p;
-        }
-        i += 1;
-    }
-    PROFILES[0]
+    with_number(number).unwrap()
 }
 
 // The hash of the profile with this number; SHA-1 where the table has none.
 pub fn hash_of(number: u8) -> Hash
     ensures { result ≡ hash_of number }
 {
-    if !is_known(number) {
-        return Hash::Sha1;
+    match with_number(number) {
+        Some(profile) => profile.digest,
+        None => Hash::Sha1,
     }
-    let p = profile_at(number);
-    let digest = p.digest;
-    digest
 }

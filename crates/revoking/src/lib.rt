@@ -1,93 +1,58 @@
 // Revoke: a slot's area is filled with the caller's filler and its record disabled.
 #![tactic(auto)]
 
-ghost use Rattle.std.specs.Prelude.{◌≡◌, ◌-◌, ◌≤◌, ◌<◌, length, take, drop};
+ghost use Rattle.std.specs.Prelude.{◌≡◌, IfOk, ◌-◌};
 ghost use Rattle.rules.specs.Checks.{first};
-ghost use Rattle.rules.specs.Calls.{revoke, early_checks, any_enabled, other_enabled};
+ghost use Rattle.rules.specs.Calls.{revoke, early_checks, other_enabled};
 ghost use Rattle.rules.specs.Promises.{DoesListed};
 ghost use Rattle.profiles.specs.Suites.{built};
-ghost use Rattle.header.specs.Refusals.{number};
-ghost use Rattle.header.specs.Records.{facts_in, HeaderOk};
+ghost use Rattle.header.specs.Refusals.{checked, answered, values_of};
+ghost use Rattle.header.specs.Records.{facts_in};
 
-use header::{Outcome, Refusal};
+use header::check::ensure;
+use header::{Drive, Refusal, Refused, SlotNumber};
 
-// Is one of the slots at the indices from, .., to − 1, counted from 0, enabled?
-fn any_enabled(image: &[u8], from: usize, to: usize) -> bool
-    requires { (1024 ≤ length image.now) × (from ≤ to) × (to ≤ 8) }
-    ensures { result ≡ any_enabled (take (to - from) (drop from (facts_in image.now).slot_facts)) }
+// Is a slot other than this one enabled?
+fn other_enabled(drive: Drive<'_>, slot: SlotNumber) -> bool
+    ensures { result ≡ other_enabled (facts_in drive.entry.image.now).slot_facts (slot.number - 1) }
 {
-    let mut k = from;
-    while k < to {
-        if header::records::is_enabled(header::facts::slot_at(image, k)) {
+    for number in 1..9u8 {
+        if number != slot.number && drive.is_enabled(SlotNumber { number }) {
             return true;
         }
-        k += 1;
     }
     false
 }
 
-// Is a slot other than that at index k, counted from 0, enabled?
-fn other_enabled(image: &[u8], k: usize) -> bool
-    requires { (1024 ≤ length image.now) × (k < 8) }
-    ensures { result ≡ other_enabled (facts_in image.now).slot_facts k }
+// The slot of a revoke whose checks pass, which derive nothing, on a drive whose header is accepted.
+fn revoke_check(
+    drive: Drive<'_>,
+    slot: u8,
+    filler: &[u8],
+    list: &[u8],
+) -> Result<SlotNumber, Refusal>
+    ensures number { checked result ≡ first (early_checks (facts_in drive.entry.image.now) (revoke slot filler.now list.now)) }
+    ensures same { IfOk result (λ k. k.number ≡ slot) }
 {
-    if any_enabled(image, 0, k) {
-        return true;
-    }
-    any_enabled(image, k + 1, 8)
-}
-
-// The checks of revoke, which derive nothing, on a drive whose header is accepted.
-fn revoke_check(image: &[u8], slot: u8, filler: &[u8], list: &[u8]) -> Refusal
-    requires { HeaderOk image.now }
-    ensures { number result ≡ first (early_checks (facts_in image.now) (revoke slot filler.now list.now)) }
-{
-    if !header::arguments::slot_number_ok(slot) {
-        return Refusal::BadSlot;
-    }
-    if !header::arguments::slot_enabled(image, slot) {
-        return Refusal::WrongState;
-    }
-    let another = other_enabled(image, (slot - 1) as usize);
-    let fills = header::arguments::filler_ok(image, slot, filler);
-    let listed = sectors::list_ok(image, slot, list);
-    if !another {
-        return Refusal::LastSlot;
-    }
-    if !fills {
-        return Refusal::BadLength;
-    }
-    if !listed {
-        return Refusal::BadBuffer;
-    }
-    Refusal::Accepted
+    let slot = SlotNumber::try_from(slot)?;
+    ensure(drive.is_enabled(slot), Refusal::WrongState)?;
+    ensure(other_enabled(drive, slot), Refusal::LastSlot)?;
+    ensure(drive.filler_ok(slot, filler), Refusal::BadLength)?;
+    ensure(sectors::list_ok(drive, slot, list), Refusal::BadBuffer)?;
+    Ok(slot)
 }
 
 // Revokes a slot: its area is filled, its record disabled, its start and stripes stay. The list has the sector writes of it.
 // The contract rules out a revoke that clears the record's start, one that revokes the last slot, and one that leaves the list as it was lent.
-pub fn revoke(image: &mut [u8], slot: u8, filler: &[u8], list: &mut [u8]) -> Outcome
+// (The arguments are those of C's mivrozh_revoke.)
+pub fn revoke(image: &mut [u8], slot: u8, filler: &[u8], list: &mut [u8]) -> Result<u64, Refused>
     ensures { DoesListed built image.old (revoke slot filler.now list.old)
-        (number result.refusal) image.new list.old list.new result.values }
+        (answered result) image.new list.old list.new (values_of result) }
 {
-    let h = header::check::header_check(image);
-    if header::number_of(h) != 0 {
-        return Outcome {
-            refusal: h,
-            values: 0,
-        };
-    }
-    let r = revoke_check(image, slot, filler, list);
-    if header::number_of(r) != 0 {
-        return Outcome {
-            refusal: r,
-            values: 0,
-        };
-    }
-    let area = sectors::area_of(image, slot);
+    let drive = Drive::check(image)?;
+    let slot = revoke_check(drive, slot, filler, list)?;
+    let area = sectors::area_of(drive, slot);
     slots::disable_slot(image, slot, filler);
     sectors::put_list(list, 0, image, area);
-    Outcome {
-        refusal: r,
-        values: 0, // a revoke derives nothing
-    }
+    Ok(0) // a revoke derives nothing
 }

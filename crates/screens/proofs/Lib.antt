@@ -1,2 +1,3 @@
+pub mod MappedLaws
 pub mod ScreenLaws
 pub mod ScreensTell

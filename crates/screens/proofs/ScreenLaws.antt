@@ -1,38 +1,40 @@
 -- An entry of a screen, and arrays filled entry by entry.
 use mathlib.Core.Path.{◌≡◌, refl, sym, ap, ◌∙◌}
-use mathlib.Core.List.{List, [], ◌∷◌, map, map-append}
-use mathlib.Core.Bool.{Bool, true, false, cond}
+use mathlib.Core.List.{List, [], ◌∷◌, map, map-map, map-append}
+use mathlib.Core.Bool.{Bool, cond}
 use Prim.Native.Nat.{ℕ, ◌+◌, ◌-◌, ◌<◌}
 use native.Mathlib.Numerals.{add-one}
 use native.Mathlib.Omega.{arith}
-use mir.Val.{bool_byte}
-use lib.Dec.{eqb}
 use lib.ListN.{length, get_or, take, set, replicate, get_or-map}
 use lib.Seq.{take-suc, take-suc-set}
 use borrow.Author.Tests.{ne_eqb}
 use Rattle.rules.specs.Checks.{first}
 use Rattle.rules.specs.Profiles.{Table, aligned}
-use Rattle.rules.specs.Facts.{Facts, SlotFacts, enabled, is_enabled, no_slot, slot_of, facts_of}
+use Rattle.rules.specs.Facts.{Facts, SlotFacts, no_slot, slot_of, facts_of}
 use Rattle.rules.specs.Header.{header_checks}
 use Rattle.profiles.specs.Suites.{built}
-use Rattle.header.specs.declared.Slot.{Slot}
+use Rattle.header.specs.declared.slot.Slot.{Slot}
 use Rattle.header.specs.Records.{facts_in, IsSlot}
-use Rattle.screens.specs.Screens.{enabled_bit, details_of, screen, Shows}
+use Rattle.header.specs.States.{is_state_enabled}
+use Rattle.header.proofs.AnswerLaws.{number_some}
+use Rattle.header.proofs.FactsLaws.{enabled_is}
+use Rattle.header.specs.Refusals.{number, checked}
+use Rattle.header.specs.declared.refusal.Refusal.{Refusal}
+use Rattle.screens.specs.declared.Entry.{Entry}
+use Rattle.screens.specs.Entries.{details_in, bits_shown, details_shown}
+use Rattle.std.specs.Prelude.{Result, Ok, Err, IsErrAnd}
+use Rattle.screens.specs.Screens.{Details, enabled_bit, details_of, no_details, screen, slot_screen, detail_screen, Shows}
 
 -- ---- an entry
 
-bit_is : (b : Bool) → bool_byte b ≡ cond b 1 0
-bit_is true = refl
-bit_is false = refl
-
 -- a slot's record, in the rules' words
-pub entry_is : (r : Slot) (s : SlotFacts) → IsSlot r s
-    → record { enabled = bool_byte (eqb r.state enabled); count = r.count; start = r.start.0; stripes = r.stripes } ≡ details_of s
-unfolding details_of enabled_bit is_enabled
-entry_is r s h =
+pub entry_is : (r : Slot) (s : SlotFacts) → IsSlot r s → (b : Bool) → b ≡ is_state_enabled r.state
+    → details_in (record { enabled = b; count = r.count; start = r.start; stripes = r.stripes }) ≡ details_of s
+unfolding details_of enabled_bit
+entry_is r s h b e =
     λ j.
     record {
-      enabled = (bit_is (eqb r.state enabled) ∙ ap (λ (x : ℕ). cond (eqb x enabled) 1 0) h.state_is) j;
+      enabled = ap (λ (x : Bool). cond x 1 0) (e ∙ enabled_is r s h) j;
       count = h.count_is j;
       start = h.start_is j;
       stripes = h.stripes_is j;
@@ -91,3 +93,31 @@ module _ {A : Type 0} (entry : SlotFacts → A) (zero : A) (image : List ℕ) (c
   pub shows-slots : code ≡ 0 → entries ≡ shown entry (facts_in image) → Shows (screen entry zero built image) code entries
   unfolding screen
   shows-slots n z = record { code_is = e; entries_are = rw (sym e, n) z }
+
+-- ---- a refused header: no screen's number is 0 then
+
+module _ (image : List ℕ) (e : Refusal) (h : number e ≡ first (header_checks built image)) where
+  pub slots_refused : (r : Result (List Bool) Refusal) → IsErrAnd r (λ x. x ≡ e) → Shows (slot_screen built image) (checked r) (bits_shown r)
+  slots_refused (Ok bits) p = absurd p
+  slots_refused (Err x) p = shows-zeros enabled_bit 0 image (number x) _ (ap number p ∙ h) (number_some x) refl
+
+  pub details_refused : (r : Result (List Entry) Refusal) → IsErrAnd r (λ x. x ≡ e) → Shows (detail_screen built image) (checked r) (details_shown r)
+  details_refused (Ok entries) p = absurd p
+  details_refused (Err x) p = shows-zeros details_of no_details image (number x) _ (ap number p ∙ h) (number_some x) refl
+
+-- ---- the first screen, from the entries of the second
+
+bits-same : (g : SlotFacts → ℕ) (l : List SlotFacts) → ((s : SlotFacts) → g s ≡ enabled_bit s) → map g l ≡ map enabled_bit l
+bits-same g [] h = refl
+bits-same g (s ∷ l) h = λ j. h s j ∷ bits-same g l h j
+
+bit-of : (s : SlotFacts) → (details_of s).enabled ≡ enabled_bit s
+unfolding details_of
+bit-of s = refl
+
+pub bits_are : (entries : List Entry) (bits : List Bool) (slots : List SlotFacts) → bits ≡ map (λ e. e.enabled) entries → map details_in entries ≡ map details_of slots
+    → map (λ b. cond b 1 0) bits ≡ map enabled_bit slots
+bits_are entries bits slots e h =
+    ap (map (λ (b : Bool). cond b 1 0)) e ∙ map-map (λ (b : Bool). cond b 1 0) (λ (e : Entry). e.enabled) entries
+    ∙ sym (map-map (λ (d : Details). d.enabled) details_in entries) ∙ ap (map (λ (d : Details). d.enabled)) h
+    ∙ map-map (λ (d : Details). d.enabled) details_of slots ∙ bits-same _ slots bit-of

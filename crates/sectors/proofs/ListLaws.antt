@@ -7,7 +7,10 @@ use native.Mathlib.Numerals.{add-one}
 use native.Mathlib.Omega.{arith}
 use lib.ListN.{length, take, drop, length-append}
 use borrow.Author.Tests.{eqb-true}
+use Rattle.std.specs.Int.{div_ceil}
+use Rattle.std.proofs.lemmas.Grind.{div_ceil_times}
 use Rattle.octets.specs.Octets.{be32}
+use Rattle.octets.specs.Pieces.{piece_count}
 use Rattle.octets.specs.Splice.{part, splice}
 use Rattle.octets.proofs.OctetsLaws.{length-big_endian}
 use Rattle.octets.proofs.SpliceLaws.{splice-next, splice_all}
@@ -20,6 +23,12 @@ use Rattle.header.specs.Records.{facts_in, HeaderOk}
 use Rattle.header.proofs.SoundLaws.{sound}
 use Rattle.sectors.specs.declared.Area.{Area}
 use Rattle.sectors.specs.Areas.{IsArea, Within, writes_of}
+
+-- ---- sectors
+
+-- bytes in sectors, rounded up
+pub ceil-pieces : (n : ℕ) → div_ceil n 512 ≡ piece_count 512 n
+ceil-pieces n = let b = div_ceil_times n 512 (omega arith) in omega (arith, b.0, b.1)
 
 -- ---- entries
 

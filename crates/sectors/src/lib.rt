@@ -4,11 +4,11 @@
 ghost use Rattle.std.specs.Prelude.{◌≡◌, true, ◌+◌, ◌*◌, ◌≤◌, ◌<◌, length};
 ghost use Rattle.octets.specs.Splice.{splice};
 ghost use Rattle.rules.specs.Sectors.{sectors_from, encoded, entry_bytes, slot_count};
-ghost use Rattle.rules.specs.Calls.{slot_number_ok, list_ok};
-ghost use Rattle.header.specs.Records.{facts_in, HeaderOk};
+ghost use Rattle.rules.specs.Calls.{list_ok};
+ghost use Rattle.header.specs.Records.{facts_in};
 ghost use Rattle.sectors.specs.Areas.{IsArea, Within, writes_of};
 
-use header::ImageSector;
+use header::{Drive, ImageSector, SlotNumber};
 
 // The bytes of a sector, and of its entry in the list: the number, then these.
 const SECTOR: usize = 512;
@@ -24,46 +24,42 @@ pub struct Area {
 }
 
 // The sectors of a slot's area.
-pub fn area_of(image: &[u8], slot: u8) -> Area
-    requires { HeaderOk image.now × (slot_number_ok slot ≡ true) }
-    ensures { IsArea result (facts_in image.now) slot × (result.sectors ≤ 500) }
+pub fn area_of(drive: Drive<'_>, slot: SlotNumber) -> Area
+    ensures { IsArea result (facts_in drive.entry.image.now) slot.number × (result.sectors ≤ 500) }
 {
-    let s = header::facts::slot_of(image, slot);
-    let start = s.start;
-    let bytes = s.stripes * header::facts::key_bytes(image);
-    let sectors = (bytes + 511) / 512;
-    let payload = header::facts::payload_at(image);
+    let s = drive.slot(slot);
+    let bytes = s.stripes * drive.key_bytes();
     Area {
-        start,
-        sectors,
-        payload,
+        start: s.start,
+        sectors: bytes.div_ceil(512),
+        payload: drive.head().payload_at(),
     }
 }
 
 // The bytes of the list of the work on a slot.
-pub fn list_bytes(image: &[u8], slot: u8) -> usize
-    requires { HeaderOk image.now × (slot_number_ok slot ≡ true) }
-    ensures { (result ≡ slot_count (facts_in image.now) slot * entry_bytes) × (result ≤ 1048576) }
+pub fn list_bytes(drive: Drive<'_>, slot: SlotNumber) -> usize
+    ensures { (result ≡ slot_count (facts_in drive.entry.image.now) slot.number * entry_bytes) × (result ≤ 1048576) }
 {
-    let a = area_of(image, slot);
+    let a = area_of(drive, slot);
     (a.sectors as usize + 2) * ENTRY
 }
 
 // Is the buffer as long as the list of the work on the slot?
-pub fn list_ok(image: &[u8], slot: u8, list: &[u8]) -> bool
-    requires { HeaderOk image.now × (slot_number_ok slot ≡ true) }
-    ensures { result ≡ list_ok (slot_count (facts_in image.now) slot) list.now }
+pub fn list_ok(drive: Drive<'_>, slot: SlotNumber, list: &[u8]) -> bool
+    ensures { result ≡ list_ok (slot_count (facts_in drive.entry.image.now) slot.number) list.now }
 {
-    list.len() == list_bytes(image, slot)
+    list.len() == list_bytes(drive, slot)
 }
 
 // One entry, at an offset of the list: the sector's number, then its bytes.
+// (List, offset and image stay three arguments, here and below: a struct of them would be made for one call and read once in each.)
 fn put_sector(list: &mut [u8], at: usize, image: &[u8], sector: ImageSector)
     requires { (at + entry_bytes ≤ length list.old) × (sector.0 * 512 + 512 ≤ length image.now) }
     ensures { list.new ≡ splice list.old at (encoded (sectors_from image.now sector.0 1)) }
 {
     let number = octets::be32(sector.0);
     octets::copy_into(list, at, &number);
+    // (A sector's bytes are counted as the clauses count them; a From would be no plainer.)
     let start = sector.0 as usize * SECTOR;
     let end = start + SECTOR;
     octets::copy_into(list, at + 4, &image[start..end]);
@@ -82,11 +78,8 @@ fn put_sectors(list: &mut [u8], at: usize, image: &[u8], area: Area)
     requires { Within area image.now × (at + area.sectors * entry_bytes ≤ length list.old) }
     ensures { list.new ≡ splice list.old at (encoded (sectors_from image.now area.start.0 area.sectors)) }
 {
-    let count = area.sectors;
-    let mut i: u32 = 0;
-    while i < count {
+    for i in 0..area.sectors {
         put_sector(list, at + i as usize * ENTRY, image, sector_at(area, i));
-        i += 1;
     }
 }
 

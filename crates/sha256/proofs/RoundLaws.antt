@@ -1,56 +1,39 @@
 -- The schedule and the rounds in one pass over a ring (specs/Ring.antt) come to what they come to one after the other.
-use Rattle.std.proofs.Common.{◌≡◌, ℕ, zero, suc, ◌+◌, ◌-◌, ◌%◌, ◌<◌, ◌≤◌, List, [], ◌∷◌, length, get_or, sym, refl, ap, ◌∙◌, ap₂, add-zero, add-suc, zero-add, arith, length-set, get_or-set_other, get_or-set_same}
+use Rattle.std.proofs.Common.{◌≡◌, ℕ, zero, suc, ◌+◌, ◌-◌, ◌%◌, ◌<◌, ◌≤◌, List, [], length, get_or, sym, refl, ap, ◌∙◌, ap₂, add-zero, add-one, zero-add, arith, length-set, get_or-set_other, get_or-set_same}
 use native.Mathlib.Nat.{mod-add-mod}
 use native.Mathlib.Decide.{dec_le}
 use lib.Seq.{get_or_at}
-use Rattle.digest.specs.Chaining.{◌⊞◌, ch, maj, schedule}
+use Rattle.digest.specs.Chaining.{◌⊞◌, schedule}
 use Rattle.digest.specs.Turns.{turns}
 use Rattle.digest.proofs.ChainingLaws.{length-schedule, schedule-at, turns-add}
-use Rattle.sha256.specs.Sha256.{Σ₀, Σ₁, σ₀, σ₁, constants, next, mix, rounds, add_words, compress_words}
-use Rattle.sha256.specs.Ring.{grow, turn, last_rounds}
-
--- ---- a round, as the code sums it
-
-pub mix-is : (s : List ℕ) (c w x₁ x₂ p y₁ y₂ q a e : ℕ) → x₁ ≡ Σ₁ (get_or s 4 0) → x₂ ≡ ch (get_or s 4 0) (get_or s 5 0) (get_or s 6 0)
-    → p ≡ get_or s 7 0 ⊞ x₁ ⊞ x₂ ⊞ c ⊞ w → y₁ ≡ Σ₀ (get_or s 0 0) → y₂ ≡ maj (get_or s 0 0) (get_or s 1 0) (get_or s 2 0) → q ≡ y₁ ⊞ y₂
-    → a ≡ p ⊞ q → e ≡ get_or s 3 0 ⊞ p
-    → (a ∷ get_or s 0 0 ∷ get_or s 1 0 ∷ get_or s 2 0 ∷ e ∷ get_or s 4 0 ∷ get_or s 5 0 ∷ get_or s 6 0 ∷ []) ≡ mix c w s
-unfolding mix
-mix-is s c w x₁ x₂ p y₁ y₂ q a e hx₁ hx₂ hp hy₁ hy₂ hq ha he = rw (ha, he, hp, hq, hx₁, hx₂, hy₁, hy₂)
-
--- ---- the sums after the last round
-
-pub compress_words-is : (s m v : List ℕ) (a b c d e f g h : ℕ) → v ≡ rounds (schedule next m 48) s 64 → a ≡ get_or s 0 0 ⊞ get_or v 0 0 → b ≡ get_or s 1 0 ⊞ get_or v 1 0
-    → c ≡ get_or s 2 0 ⊞ get_or v 2 0 → d ≡ get_or s 3 0 ⊞ get_or v 3 0 → e ≡ get_or s 4 0 ⊞ get_or v 4 0 → f ≡ get_or s 5 0 ⊞ get_or v 5 0
-    → g ≡ get_or s 6 0 ⊞ get_or v 6 0 → h ≡ get_or s 7 0 ⊞ get_or v 7 0 → (a ∷ b ∷ c ∷ d ∷ e ∷ f ∷ g ∷ h ∷ []) ≡ compress_words s m
-unfolding compress_words add_words
-compress_words-is s m v a b c d e f g h ev ea eb ec ed ee ef eg eh = rw (ea, eb, ec, ed, ee, ef, eg, eh, ev)
+use Rattle.sha256.specs.Sha256.{σ₀, σ₁, constants, next, mix, rounds}
+use Rattle.sha256.specs.Ring.{grow, turn}
 
 -- ---- the schedule
 
 -- the word 16 + n, from the words of the whole schedule
-schedule-next : (m : List ℕ) (n : ℕ) → length m ≡ 16 → n < 48
-    → get_or (schedule next m 48) (16 + n) 0
-    ≡ σ₁ (get_or (schedule next m 48) (n + 14) 0) ⊞ get_or (schedule next m 48) (n + 9) 0 ⊞ σ₀ (get_or (schedule next m 48) (n + 1) 0) ⊞ get_or (schedule next m 48) n 0
+schedule-next : (m : List ℕ) (n : ℕ) → length m ≡ 16 → n < 64
+    → get_or (schedule next m 64) (16 + n) 0
+    ≡ σ₁ (get_or (schedule next m 64) (n + 14) 0) ⊞ get_or (schedule next m 64) (n + 9) 0 ⊞ σ₀ (get_or (schedule next m 64) (n + 1) 0) ⊞ get_or (schedule next m 64) n 0
 unfolding schedule next
 schedule-next m n h l =
     let a : 16 + n - 2 ≡ n + 14 = omega arith in
     let b : 16 + n - 7 ≡ n + 9 = omega arith in
     let c : 16 + n - 15 ≡ n + 1 = omega arith in
     let d : 16 + n - 16 ≡ n = omega arith in
-    let at : (t : ℕ) → t < 16 + n → get_or (schedule next m n) t 0 ≡ get_or (schedule next m 48) t 0 = λ t k. schedule-at next m n 48 t h k (omega arith) in
-    sym (schedule-at next m (suc n) 48 (16 + n) h (omega arith) (omega arith))
+    let at : (t : ℕ) → t < 16 + n → get_or (schedule next m n) t 0 ≡ get_or (schedule next m 64) t 0 = λ t k. schedule-at next m n 64 t h k (omega arith) in
+    sym (schedule-at next m (suc n) 64 (16 + n) h (omega arith) (omega arith))
     ∙ get_or_at (schedule next m n) (next (schedule next m n) (16 + n)) [] 0 (16 + n) (length-schedule next m n h)
     ∙ rw (a, b, c, d, at (n + 14) (omega arith), at (n + 9) (omega arith), at (n + 1) (omega arith), at n (omega arith))
 
 -- ---- turns
 
--- one, as the code makes it in place i
+-- one, made in place i
 turn_is : (w w' s r : List ℕ) (t i : ℕ) → t % 16 ≡ i → w' ≡ grow w i → r ≡ mix (get_or constants t 0) (get_or w i 0) s → (w', r) ≡ turn t (w, s)
 unfolding turn
 turn_is w w' s r t i ei ew er = ap₂ (λ (x y : List ℕ). (x, y)) (ew ∙ ap (grow w) (sym ei)) (er ∙ rw ei)
 
--- eight of them, from place o on
+-- eight of them one after the other, from place o on
 pub turns-eight : {w₁ w₂ w₃ w₄ w₅ w₆ w₇ w₈ s₁ s₂ s₃ s₄ s₅ s₆ s₇ s₈ : List ℕ} (w₀ s₀ : List ℕ) (t o : ℕ) → t % 16 ≡ o → o ≤ 8
     → w₁ ≡ grow w₀ o → s₁ ≡ mix (get_or constants t 0) (get_or w₀ o 0) s₀
     → w₂ ≡ grow w₁ (o + 1) → s₂ ≡ mix (get_or constants (t + 1) 0) (get_or w₁ (o + 1) 0) s₁
@@ -75,22 +58,29 @@ turns-eight {w₁} {w₂} {w₃} {w₄} {w₅} {w₆} {w₇} {w₈} {s₁} {s₂
     e₇ ∙ ap (turn (t + 7)) (e₆ ∙ ap (turn (t + 6)) (e₅ ∙ ap (turn (t + 5)) (e₄ ∙ ap (turn (t + 4)) (e₃ ∙ ap (turn (t + 3)) (e₂ ∙ ap (turn (t + 2))
     (e₁ ∙ ap (turn (t + 1)) (e₀ ∙ ap (λ (n : ℕ). turn n (w₀, s₀)) (sym (add-zero t)))))))))
 
--- six times eight
+-- one more, in the loop over eight
+pub turn_more : (a b c : List ℕ × List ℕ) (t i : ℕ) → b ≡ turns turn a t i → c ≡ turn (t + i) b → c ≡ turns turn a t (i + 1)
+unfolding turns
+turn_more a b c t i eb ec = ec ∙ ap (turn (t + i)) eb ∙ ap (turns turn a t) (sym (add-one i))
+
+-- eight more, after the first n
 eight_more : (a x y : List ℕ × List ℕ) (n : ℕ) → x ≡ turns turn a 0 n → y ≡ turns turn x n 8 → y ≡ turns turn a 0 (n + 8)
 eight_more a x y n p q =
     q ∙ ap (λ (z : List ℕ × List ℕ). turns turn z n 8) p ∙ ap (λ (k : ℕ). turns turn (turns turn a 0 n) k 8) (sym (zero-add n)) ∙ turns-add turn a 0 n 8
 
-pub turns_all : (a b c d e f g : List ℕ × List ℕ) → b ≡ turns turn a 0 8 → c ≡ turns turn b 8 8 → d ≡ turns turn c 16 8 → e ≡ turns turn d 24 8
-    → f ≡ turns turn e 32 8 → g ≡ turns turn f 40 8 → g ≡ turns turn a 0 48
-turns_all a b c d e f g eb ec ed ee ef eg =
-    eight_more a f g 40 (eight_more a e f 32 (eight_more a d e 24 (eight_more a c d 16 (eight_more a b c 8 eb ec) ed) ee) ef) eg
+-- eight times eight
+turns_all : (a b c d e f g h i : List ℕ × List ℕ) → b ≡ turns turn a 0 8 → c ≡ turns turn b 8 8 → d ≡ turns turn c 16 8 → e ≡ turns turn d 24 8
+    → f ≡ turns turn e 32 8 → g ≡ turns turn f 40 8 → h ≡ turns turn g 48 8 → i ≡ turns turn h 56 8 → i ≡ turns turn a 0 64
+turns_all a b c d e f g h i eb ec ed ee ef eg eh ei =
+    eight_more a h i 56 (eight_more a g h 48 (eight_more a f g 40 (eight_more a e f 32 (eight_more a d e 24 (eight_more a c d 16 (eight_more a b c 8 eb ec) ed) ee) ef) eg) eh) ei
 
 -- ---- the first t turns are the first t rounds
 
--- what holds after t turns for the block m, from the chaining words s: the ring has the words t to t + 15
+-- what holds after t turns for the block m, from the chaining words s: the ring has the words t to t + 15 of a
+-- schedule that is 16 words longer than the rounds need
 record Course (m s : List ℕ) (t : ℕ) (a : List ℕ × List ℕ) : Type 0 where
   size : length a.0 ≡ 16
-  ring : (j : ℕ) → j < 16 → get_or a.0 ((t + j) % 16) 0 ≡ get_or (schedule next m 48) (t + j) 0
+  ring : (j : ℕ) → j < 16 → get_or a.0 ((t + j) % 16) 0 ≡ get_or (schedule next m 64) (t + j) 0
   state : a.1 ≡ rounds (schedule next m 48) s t
 
 length-grow : (w : List ℕ) (i : ℕ) → length (grow w i) ≡ length w
@@ -98,15 +88,15 @@ unfolding grow
 length-grow w i = length-set w i _
 
 -- the place of word t, now of word t + 16, and the others
-grow-same : (m w : List ℕ) (t : ℕ) → length m ≡ 16 → t < 48 → length w ≡ 16 → ((j : ℕ) → j < 16 → get_or w ((t + j) % 16) 0 ≡ get_or (schedule next m 48) (t + j) 0)
-    → get_or (grow w (t % 16)) (t % 16) 0 ≡ get_or (schedule next m 48) (16 + t) 0
+grow-same : (m w : List ℕ) (t : ℕ) → length m ≡ 16 → t < 64 → length w ≡ 16 → ((j : ℕ) → j < 16 → get_or w ((t + j) % 16) 0 ≡ get_or (schedule next m 64) (t + j) 0)
+    → get_or (grow w (t % 16)) (t % 16) 0 ≡ get_or (schedule next m 64) (16 + t) 0
 unfolding grow
 grow-same m w t hm h l r =
     let a : (t % 16 + 14) % 16 ≡ (t + 14) % 16 = mod-add-mod t 16 14 in
     let b : (t % 16 + 9) % 16 ≡ (t + 9) % 16 = mod-add-mod t 16 9 in
     let c : (t % 16 + 1) % 16 ≡ (t + 1) % 16 = mod-add-mod t 16 1 in
-    let d : get_or w (t % 16) 0 ≡ get_or (schedule next m 48) t 0 = ap (λ (k : ℕ). get_or w (k % 16) 0) (sym (add-zero t))
-    ∙ r 0 (omega arith) ∙ ap (λ (k : ℕ). get_or (schedule next m 48) k 0) (add-zero t) in
+    let d : get_or w (t % 16) 0 ≡ get_or (schedule next m 64) t 0 = ap (λ (k : ℕ). get_or w (k % 16) 0) (sym (add-zero t))
+    ∙ r 0 (omega arith) ∙ ap (λ (k : ℕ). get_or (schedule next m 64) k 0) (add-zero t) in
     get_or-set_same w (t % 16) _ 0 (omega arith)
     ∙ rw (a, b, c, r 14 (omega arith), r 9 (omega arith), r 1 (omega arith), d) (sym (schedule-next m t hm h))
 
@@ -114,63 +104,49 @@ grow-other : (w : List ℕ) (i j : ℕ) → (j ≡ i → ⊥) → get_or (grow w
 unfolding grow
 grow-other w i j n = get_or-set_other w i j _ 0 n
 
-ring_more : (m w : List ℕ) (t : ℕ) → length m ≡ 16 → t < 48 → length w ≡ 16 → ((j : ℕ) → j < 16 → get_or w ((t + j) % 16) 0 ≡ get_or (schedule next m 48) (t + j) 0)
-    → (j : ℕ) → j < 16 → Dec (j ≤ 14) → get_or (grow w (t % 16)) ((suc t + j) % 16) 0 ≡ get_or (schedule next m 48) (suc t + j) 0
+ring_more : (m w : List ℕ) (t : ℕ) → length m ≡ 16 → t < 64 → length w ≡ 16 → ((j : ℕ) → j < 16 → get_or w ((t + j) % 16) 0 ≡ get_or (schedule next m 64) (t + j) 0)
+    → (j : ℕ) → j < 16 → Dec (j ≤ 14) → get_or (grow w (t % 16)) ((suc t + j) % 16) 0 ≡ get_or (schedule next m 64) (suc t + j) 0
 ring_more m w t hm h l r j hj (no n) =
     let a : (suc t + j) % 16 ≡ t % 16 = omega arith in
     let b : suc t + j ≡ 16 + t = omega arith in
-    ap (λ (k : ℕ). get_or (grow w (t % 16)) k 0) a ∙ grow-same m w t hm h l r ∙ ap (λ (k : ℕ). get_or (schedule next m 48) k 0) (sym b)
+    ap (λ (k : ℕ). get_or (grow w (t % 16)) k 0) a ∙ grow-same m w t hm h l r ∙ ap (λ (k : ℕ). get_or (schedule next m 64) k 0) (sym b)
 ring_more m w t hm h l r j hj (yes g) =
     let a : suc t + j ≡ t + suc j = omega arith in
     ap (λ (k : ℕ). get_or (grow w (t % 16)) (k % 16) 0) a
     ∙ grow-other w (t % 16) ((t + suc j) % 16) (λ e. omega arith)
-    ∙ r (suc j) (omega arith) ∙ ap (λ (k : ℕ). get_or (schedule next m 48) k 0) (sym a)
+    ∙ r (suc j) (omega arith) ∙ ap (λ (k : ℕ). get_or (schedule next m 64) k 0) (sym a)
 
-turn-course : (m s : List ℕ) (t : ℕ) (a : List ℕ × List ℕ) → length m ≡ 16 → t < 48 → Course m s t a → Course m s (suc t) (turn t a)
+turn-course : (m s : List ℕ) (t : ℕ) (a : List ℕ × List ℕ) → length m ≡ 16 → t < 64 → Course m s t a → Course m s (suc t) (turn t a)
 unfolding turn rounds
 turn-course m s t a hm h p =
     let x : get_or a.0 (t % 16) 0 ≡ get_or (schedule next m 48) t 0 =
-    ap (λ (k : ℕ). get_or a.0 (k % 16) 0) (sym (add-zero t)) ∙ p.ring 0 (omega arith) ∙ ap (λ (k : ℕ). get_or (schedule next m 48) k 0) (add-zero t) in
+    ap (λ (k : ℕ). get_or a.0 (k % 16) 0) (sym (add-zero t)) ∙ p.ring 0 (omega arith) ∙ ap (λ (k : ℕ). get_or (schedule next m 64) k 0) (add-zero t)
+    ∙ schedule-at next m 64 48 t hm (omega arith) (omega arith) in
     record {
       size = length-grow a.0 (t % 16) ∙ p.size;
       ring = λ j hj. ring_more m a.0 t hm h p.size p.ring j hj (dec_le j 14);
       state = ap₂ (mix (get_or constants t 0)) x p.state;
     }
 
-first-words : (m : List ℕ) (j : ℕ) → length m ≡ 16 → j < 16 → get_or m j 0 ≡ get_or (schedule next m 48) j 0
+first-words : (m : List ℕ) (j : ℕ) → length m ≡ 16 → j < 16 → get_or m j 0 ≡ get_or (schedule next m 64) j 0
 unfolding schedule
-first-words m j h k = schedule-at next m 0 48 j h (omega arith) (omega arith)
+first-words m j h k = schedule-at next m 0 64 j h (omega arith) (omega arith)
 
-course : (m s : List ℕ) (t : ℕ) → length m ≡ 16 → t ≤ 48 → Course m s t (turns turn (m, s) 0 t)
+course : (m s : List ℕ) (t : ℕ) → length m ≡ 16 → t ≤ 64 → Course m s t (turns turn (m, s) 0 t)
 unfolding turns rounds
 course m s zero hm h =
     record {
       size = hm;
       ring = λ j hj.
           let a : (0 + j) % 16 ≡ j = omega arith in
-          ap (λ (k : ℕ). get_or m k 0) a ∙ first-words m j hm hj ∙ ap (λ (k : ℕ). get_or (schedule next m 48) k 0) (sym (zero-add j));
+          ap (λ (k : ℕ). get_or m k 0) a ∙ first-words m j hm hj ∙ ap (λ (k : ℕ). get_or (schedule next m 64) k 0) (sym (zero-add j));
       state = refl;
     }
 course m s (suc t) hm h =
     rw (zero-add t) (turn-course m s t (turns turn (m, s) 0 t) hm h (course m s t hm (omega arith)))
 
--- ---- the last 16 rounds
-
-last_rounds-rounds : (m s : List ℕ) (a : List ℕ × List ℕ) (n : ℕ) → Course m s 48 a → n ≤ 16 → last_rounds a.0 a.1 n ≡ rounds (schedule next m 48) s (48 + n)
-unfolding last_rounds rounds
-last_rounds-rounds m s a zero p h = p.state
-last_rounds-rounds m s a (suc n) p h =
-    let z : n ≡ (48 + n) % 16 = omega arith in
-    let x : get_or a.0 n 0 ≡ get_or (schedule next m 48) (48 + n) 0 = ap (λ (k : ℕ). get_or a.0 k 0) z ∙ p.ring n (omega arith) in
-    ap₂ (mix (get_or constants (48 + n) 0)) x (last_rounds-rounds m s a n p (omega arith)) ∙ ap (rounds (schedule next m 48) s) (sym (add-suc 48 n))
-
-pub rounds_are : (m s w v r : List ℕ) → length m ≡ 16 → (w, v) ≡ turns turn (m, s) 0 48 → r ≡ last_rounds w v 16 → r ≡ rounds (schedule next m 48) s 64
-rounds_are m s w v r hm e er =
-    let a : List ℕ × List ℕ = turns turn (m, s) 0 48 in
-    er ∙ ap₂ (λ (x y : List ℕ). last_rounds x y 16) (ap (λ (x : List ℕ × List ℕ). x.0) e) (ap (λ (x : List ℕ × List ℕ). x.1) e)
-    ∙ last_rounds-rounds m s a 16 (course m s 48 hm (omega arith)) (omega arith)
-
--- a step more
-pub last_rounds_more : (w s v u : List ℕ) (n : ℕ) → v ≡ last_rounds w s n → u ≡ mix (get_or constants (48 + n) 0) (get_or w n 0) v → u ≡ last_rounds w s (suc n)
-unfolding last_rounds
-last_rounds_more w s v u n ev eu = eu ∙ ap (mix (get_or constants (48 + n) 0) (get_or w n 0)) ev
+-- so that eight times eight turns are the 64 rounds
+pub rounds_are : (m s : List ℕ) (b c d e f g h i : List ℕ × List ℕ) → length m ≡ 16 → b ≡ turns turn (m, s) 0 8 → c ≡ turns turn b 8 8 → d ≡ turns turn c 16 8
+    → e ≡ turns turn d 24 8 → f ≡ turns turn e 32 8 → g ≡ turns turn f 40 8 → h ≡ turns turn g 48 8 → i ≡ turns turn h 56 8 → i.1 ≡ rounds (schedule next m 48) s 64
+rounds_are m s b c d e f g h i hm eb ec ed ee ef eg eh ei =
+    ap (λ (x : List ℕ × List ℕ). x.1) (turns_all (m, s) b c d e f g h i eb ec ed ee ef eg eh ei) ∙ (course m s 64 hm (omega arith)).state

@@ -1,6 +1,5 @@
-// Slots of a drive in memory revoked, added and changed, each call held to its list of sector writes; and room for drives and lists.
+// Slots of a drive in memory revoked, added and changed, each call held to its list of sector writes.
 #![tactic(auto)]
 
 pub mod changes;
 mod listed;
-pub mod made;

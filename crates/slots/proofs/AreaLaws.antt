@@ -1,10 +1,12 @@
 -- A slot's area in an accepted drive: its room, its bytes, its candidate, and what is written of it.
-use mathlib.Core.Path.{◌≡◌, sym, ap, ap₂, ◌∙◌}
+use mathlib.Core.Path.{◌≡◌, refl, sym, ap, ap₂, ◌∙◌}
 use mathlib.Core.List.{List, ◌++◌, append-nil}
 use mathlib.Core.Bool.{Bool, true, false}
 use Prim.Native.Nat.{ℕ, ◌+◌, ◌-◌, ◌*◌, ◌≤◌}
 use native.Mathlib.Omega.{arith}
 use lib.ListN.{length, take, drop, replicate}
+use Rattle.std.specs.Prelude.{Option, is_some, IfSome}
+use Rattle.std.specs.Bool.{then_some}
 use Rattle.octets.specs.Octets.{big_endian, be32, be32_at, zeros, padded, same}
 use Rattle.octets.specs.Splice.{part, splice}
 use Rattle.octets.proofs.BoolLaws.{and_no, and_yes}
@@ -19,7 +21,7 @@ use Rattle.rules.proofs.ArgumentLaws.{number_in}
 use Rattle.rules.proofs.StepLaws.{slot_of-image}
 use Rattle.profiles.specs.Rows.{hash_of, rows}
 use Rattle.profiles.specs.Suites.{aes_xts, suite_of, built}
-use Rattle.header.specs.declared.Slot.{Slot}
+use Rattle.header.specs.declared.slot.Slot.{Slot}
 use Rattle.header.specs.Records.{facts_in, HeaderOk, IsSlot}
 use Rattle.header.proofs.SlotLaws.{stripes-fit}
 use Rattle.header.proofs.SoundLaws.{sound}
@@ -89,6 +91,21 @@ module _ (f : Facts) (k : ℕ) (passphrase : List ℕ) where
   pub opens-on : (key : List ℕ) (b : Bool) → is_enabled (slot_of f k) ≡ true → key ≡ candidate f k passphrase → b ≡ matches f key → b ≡ opens f k passphrase
   unfolding opens
   opens-on key b e ek eb = and_yes (is_enabled (slot_of f k)) (matches f (candidate f k passphrase)) b e (eb ∙ ap (matches f) ek)
+
+-- a key that is given where a test passes
+given : (b : Bool) (x : List ℕ) → is_some (then_some b x) ≡ b
+given true x = refl
+given false x = refl
+
+pub given_is : (b : Bool) (x : List ℕ) (o : Option (List ℕ)) → o ≡ then_some b x → is_some o ≡ b
+given_is b x o e = ap is_some e ∙ given b x
+
+if_given : (b : Bool) (x z : List ℕ) → x ≡ z → IfSome (then_some b x) (λ k. k ≡ z)
+if_given true x z h = h
+if_given false x z h = tt
+
+pub key_given : (b : Bool) (x z : List ℕ) (o : Option (List ℕ)) → o ≡ then_some b x → x ≡ z → IfSome o (λ k. k ≡ z)
+key_given b x z o e h = rw e (if_given b x z h)
 
 -- a key laid at the front of 64 zeros
 pub key-padded : (y z : List ℕ) (n : ℕ) → length y ≡ n → y ≡ z → y ++ drop n (replicate 64 0) ≡ padded 64 z

@@ -4,130 +4,152 @@
 
 ghost use Rattle.std.specs.Prelude.{◌≡◌, true, ◌+◌, ◌-◌, ◌*◌, ◌^◌, ◌≤◌, ◌<◌, length};
 ghost use Rattle.octets.specs.Splice.{splice};
-ghost use Rattle.rules.specs.Facts.{slot_of, is_enabled, candidate, slot_input};
-ghost use Rattle.rules.specs.Calls.{slot_number_ok, passphrase_ok, key_ok, count_ok, random_ok};
+ghost use Rattle.rules.specs.Facts.{slot_of, is_enabled, candidate};
+ghost use Rattle.rules.specs.Calls.{passphrase_ok, key_ok, count_ok, random_ok};
 ghost use Rattle.rules.specs.Step.{written, record_head, enable_writes, disable_writes};
 ghost use Rattle.rules.specs.Costs.{derivation_cost};
+ghost use Rattle.keyslot.specs.Input.{input_of};
 ghost use Rattle.header.specs.Records.{facts_in, HeaderOk};
-ghost use Rattle.slots.specs.Trials.{IsTest, IsTrial};
+ghost use Rattle.header.specs.States.{state_number};
+ghost use Rattle.slots.specs.Trials.{IsTest, IsTested, IsTrial};
 
-// Whether a key has the header's checksum, and how many values of HMAC the test made.
-#[derive(Clone, Copy)]
-pub struct Test {
-    pub matches: bool,
-    pub values: u64,
-}
-
-// Whether a slot opens, and then its key, followed by zeros; how many values of HMAC the trial made.
-#[derive(Clone, Copy)]
-pub struct Trial {
-    pub opens: bool,
-    pub key: [u8; 64],
-    pub values: u64,
-}
+use header::{Drive, Head, Passphrase, Refusal, Refused, SlotNumber, SlotState, offsets};
+use hmac::Counted;
+use keyslot::SlotInput;
 
 // Has the key the header's checksum? One derivation of 20 bytes.
-pub fn key_matches(image: &[u8], key: &[u8]) -> Test
-    requires { HeaderOk image.now × (length key.now ≤ 64) }
-    ensures { IsTest result (facts_in image.now) key.now }
+// (That the key has at most 64 bytes is asked here and by test_key: callers have it from key_ok or an array of 64, and a type would serve this one test.)
+pub fn key_matches(drive: Drive<'_>, key: &[u8]) -> Counted<bool>
+    requires { length key.now ≤ 64 }
+    ensures { IsTest result (facts_in drive.entry.image.now) key.now }
 {
-    let hash = header::facts::hash_in(image);
-    let count = header::facts::checksum_count(image);
-    let salt = header::facts::checksum_salt(image);
+    let head = drive.head();
     let mut sum = [0u8; 20];
-    let values = pbkdf2::pbkdf2(&mut sum, hash, key, &salt, count);
-    let expected = header::facts::checksum(image);
-    Test {
-        matches: octets::equal(&sum, &expected),
-        values,
+    let made = pbkdf2::pbkdf2(
+        &mut sum,
+        drive.hash(),
+        key,
+        &head.checksum_salt(),
+        head.checksum_count(),
+    );
+    let expected = head.checksum();
+    Counted {
+        value: sum == expected,
+        made,
     }
+}
+
+// The test of the key that a call is given: how many values of HMAC it made, or refusal 17.
+pub fn test_key(drive: Drive<'_>, key: &[u8]) -> Result<u64, Refused>
+    requires { length key.now ≤ 64 }
+    ensures { IsTested result (facts_in drive.entry.image.now) key.now }
+{
+    let test = key_matches(drive, key);
+    if test.value {
+        return Ok(test.made);
+    }
+    Err(Refused {
+        refusal: Refusal::WrongKey,
+        values: test.made,
+    })
 }
 
 // The candidate of an enabled slot, in d. How many values of HMAC were made.
-fn slot_candidate(d: &mut [u8], image: &[u8], slot: u8, passphrase: &[u8]) -> u64
-    requires { HeaderOk image.now × (slot_number_ok slot ≡ true) × (is_enabled (slot_of (facts_in image.now) slot) ≡ true)
-        × (length d.old ≡ (facts_in image.now).profile.key_bytes) × (passphrase_ok passphrase.now ≡ true) }
-    ensures { (d.new ≡ candidate (facts_in image.now) slot passphrase.now)
-        × (result ≡ derivation_cost (facts_in image.now) (slot_of (facts_in image.now) slot).count) × (result < 2 ^ 34) }
+fn slot_candidate(
+    d: &mut [u8],
+    drive: Drive<'_>,
+    slot: SlotNumber,
+    passphrase: Passphrase<'_>,
+) -> u64
+    requires { (is_enabled (slot_of (facts_in drive.image.now) slot.number) ≡ true)
+        × (length d.old ≡ (facts_in drive.image.now).profile.key_bytes) }
+    ensures { (d.new ≡ candidate (facts_in drive.entry.image.now) slot.number passphrase.entry.bytes.now)
+        × (result ≡ derivation_cost (facts_in drive.entry.image.now) (slot_of (facts_in drive.entry.image.now) slot.number).count)
+        × (result < 2 ^ 34) }
 {
-    let hash = header::facts::hash_in(image);
-    let s = header::facts::slot_of(image, slot);
+    let s = drive.slot(slot);
     let n = s.stripes as usize;
+    // (A sector's bytes are counted as the clauses count them; a From would be no plainer, here and below.)
     let at = s.start.0 as usize * 512;
     let end = at + n * d.len();
-    let salt = s.salt;
-    keyslot::candidate(d, hash, &image[at..end], n, passphrase, &salt, s.count)
+    keyslot::candidate(
+        d,
+        drive.hash(),
+        &drive.image[at..end],
+        n,
+        passphrase.bytes,
+        &s.salt,
+        s.count,
+    )
 }
 
-// Tries a slot, counted from 1: a disabled one costs nothing, an enabled one its derivation and one checksum.
-pub fn try_slot(image: &[u8], slot: u8, passphrase: &[u8]) -> Trial
-    requires { HeaderOk image.now × (slot_number_ok slot ≡ true) × (passphrase_ok passphrase.now ≡ true) }
-    ensures { IsTrial result (facts_in image.now) slot passphrase.now }
+// Tries a slot: its key, followed by zeros, where it opens. A disabled one costs nothing, an enabled one its derivation and one checksum.
+pub fn try_slot(
+    drive: Drive<'_>,
+    slot: SlotNumber,
+    passphrase: Passphrase<'_>,
+) -> Counted<Option<[u8; 64]>>
+    ensures { IsTrial result (facts_in drive.entry.image.now) slot.number passphrase.entry.bytes.now }
 {
-    if !header::arguments::slot_enabled(image, slot) {
-        return Trial {
-            opens: false,
-            key: [0u8; 64],
-            values: 0,
+    if !drive.is_enabled(slot) {
+        return Counted {
+            value: None,
+            made: 0,
         };
     }
-    let l = header::facts::key_bytes(image) as usize;
+    let l = drive.key_bytes() as usize;
     let mut key = [0u8; 64];
-    let derived = slot_candidate(&mut key[..l], image, slot, passphrase);
-    let t = key_matches(image, &key[..l]);
-    Trial {
-        opens: t.matches,
-        key,
-        values: derived + t.values,
+    let derived = slot_candidate(&mut key[..l], drive, slot, passphrase);
+    let test = key_matches(drive, &key[..l]);
+    Counted {
+        value: test.value.then_some(key),
+        made: derived + test.made,
     }
 }
 
 // The first 40 bytes of a slot's record; its start and stripes stay.
-fn record_head(state: u32, count: u32, salt: &[u8; 32]) -> [u8; 40]
-    ensures { result ≡ record_head state count salt.now }
+fn record_head(state: SlotState, count: u32, salt: &[u8; 32]) -> [u8; 40]
+    ensures { result ≡ record_head (state_number state) count salt.now }
 {
     let mut head = [0u8; 40];
-    let state_bytes = octets::be32(state);
-    let count_bytes = octets::be32(count);
-    octets::copy_into(&mut head, 0, &state_bytes);
-    octets::copy_into(&mut head, header::offsets::COUNT, &count_bytes);
-    octets::copy_into(&mut head, header::offsets::SALT, salt);
+    octets::copy_into(&mut head, 0, &octets::be32(state.number()));
+    octets::copy_into(&mut head, offsets::COUNT, &octets::be32(count));
+    octets::copy_into(&mut head, offsets::SALT, salt);
     head
 }
 
 // Writes the head of a slot's record. The salt's length stands in the contract for a caller that only passes the salt on.
-fn put_head(image: &mut [u8], slot: u8, state: u32, count: u32, salt: &[u8; 32])
-    requires { (1024 ≤ length image.old) × (slot_number_ok slot ≡ true) }
-    ensures { (image.new ≡ splice image.old (208 + (slot - 1) * 48) (record_head state count salt.now))
+fn put_head(image: &mut [u8], slot: SlotNumber, state: SlotState, count: u32, salt: &[u8; 32])
+    requires { 1024 ≤ length image.old }
+    ensures { (image.new ≡ splice image.old (208 + (slot.number - 1) * 48) (record_head (state_number state) count salt.now))
         × (length salt.now ≡ 32) }
 {
-    let head = record_head(state, count, salt);
-    let place = header::facts::record_at((slot - 1) as usize);
-    octets::copy_into(image, place, &head);
+    let at = header::head::record_at((slot.number - 1) as usize);
+    octets::copy_into(image, at, &record_head(state, count, salt));
 }
 
 // Fills the slot's area with the split and enciphered key, and enables its record. How many values of HMAC were made. The salt's length is
 // said as in put_head.
-pub fn enable_slot(
-    image: &mut [u8],
-    slot: u8,
-    key: &[u8],
-    passphrase: &[u8],
-    salt: &[u8; 32],
-    count: u32,
-    random: &[u8],
-) -> u64
-    requires { HeaderOk image.old × (slot_number_ok slot ≡ true) × (key_ok (facts_in image.old) key.now ≡ true) × (passphrase_ok passphrase.now ≡ true)
-        × (count_ok (facts_in image.old) count ≡ true) × (random_ok (facts_in image.old) slot random.now ≡ true) }
-    ensures { (image.new ≡ written (enable_writes (facts_in image.old) slot key.now
-        (slot_input passphrase.now salt.now count random.now)) image.old) × (length salt.now ≡ 32)
-        × (result ≡ derivation_cost (facts_in image.old) count) × (result < 2 ^ 34) }
+// (HeaderOk stays a clause here, in move_key of changing and in write_units of payload: the image is lent to be written, and a Drive only reads one.)
+// (Image, key and input stay three arguments: the image is written, the key is the caller's or one just found, and input is keyslot's.)
+pub fn enable_slot(image: &mut [u8], slot: SlotNumber, key: &[u8], input: SlotInput<'_>) -> u64
+    requires { HeaderOk image.old × (key_ok (facts_in image.old) key.now ≡ true) × (passphrase_ok input.passphrase.now ≡ true)
+        × (count_ok (facts_in image.old) input.count ≡ true) × (random_ok (facts_in image.old) slot.number input.random.now ≡ true) }
+    ensures { (image.new ≡ written (enable_writes (facts_in image.old) slot.number key.now (input_of input.entry)) image.old)
+        × (length input.entry.salt.now ≡ 32) × (result ≡ derivation_cost (facts_in image.old) input.entry.count) × (result < 2 ^ 34) }
 {
-    let hash = header::facts::hash_in(image);
-    let s = header::facts::slot_of(image, slot);
+    let drive = Drive { image };
+    let hash = drive.hash();
+    let s = drive.slot(slot);
     let at = s.start.0 as usize * 512;
     let n = s.stripes as usize;
     let end = at + n * key.len();
+    let SlotInput {
+        passphrase,
+        salt,
+        count,
+        random,
+    } = input;
     let made = keyslot::fill(
         &mut image[at..end],
         hash,
@@ -138,18 +160,17 @@ pub fn enable_slot(
         random,
         n,
     );
-    put_head(image, slot, header::ENABLED, count, salt);
+    put_head(image, slot, SlotState::Enabled, count, salt);
     made
 }
 
 // Fills the slot's area, as far as the filler goes, and disables its record.
-pub fn disable_slot(image: &mut [u8], slot: u8, filler: &[u8])
-    requires { (1024 ≤ length image.old) × (slot_number_ok slot ≡ true)
-        × ((slot_of (facts_in image.old) slot).start * 512 + length filler.now ≤ length image.old) }
-    ensures { image.new ≡ written (disable_writes (facts_in image.old) slot filler.now) image.old }
+pub fn disable_slot(image: &mut [u8], slot: SlotNumber, filler: &[u8])
+    requires { (1024 ≤ length image.old)
+        × ((slot_of (facts_in image.old) slot.number).start * 512 + length filler.now ≤ length image.old) }
+    ensures { image.new ≡ written (disable_writes (facts_in image.old) slot.number filler.now) image.old }
 {
-    let s = header::facts::slot_of(image, slot);
-    let area = s.start.0 as usize * 512;
-    octets::copy_into(image, area, filler);
-    put_head(image, slot, header::DISABLED, 0, &[0u8; 32]);
+    let s = Head { image }.slot(slot);
+    octets::copy_into(image, s.start.0 as usize * 512, filler);
+    put_head(image, slot, SlotState::Disabled, 0, &[0u8; 32]);
 }

@@ -1,7 +1,8 @@
 -- Laws of the diffusion function over any lawful digest, and merging undoes splitting with it.
-use mathlib.Core.Path.{◌≡◌, sym, ap, ◌∙◌}
+use mathlib.Core.Path.{◌≡◌, sym, ap, ap₂, ◌∙◌}
 use mathlib.Core.List.{List, ◌++◌, append_assoc}
 use Prim.Native.Nat.{ℕ, ◌+◌, ◌-◌, ◌*◌, ◌≤◌, ◌<◌, min}
+use native.Mathlib.Nat.{mul-add}
 use native.Mathlib.Omega.{arith}
 use lib.ListN.{length, take, drop, length-drop, length-append}
 use lib.Seq.{take_at, take-take, length-take-le}
@@ -9,7 +10,7 @@ use Rattle.octets.specs.Octets.{Str, be32}
 use Rattle.octets.specs.Pieces.{in_pieces}
 use Rattle.octets.specs.Splice.{splice}
 use Rattle.octets.proofs.OctetsLaws.{str_crop}
-use Rattle.octets.proofs.PiecesLaws.{pieces_step, pieces_end, str_in_pieces}
+use Rattle.octets.proofs.PiecesLaws.{take_min, drop_min, pieces_step, pieces_end, str_in_pieces}
 use Rattle.digest.specs.Digest.{Digest, LawfulDigest}
 use Rattle.suite.specs.Split.{split, merge}
 use Rattle.suite.proofs.SplitLaws.{merge-split}
@@ -41,6 +42,18 @@ module _ (H : Digest) (ok : LawfulDigest H) where
       (sym (take-take n H.size h (omega (arith, ed, en))) ∙ ap (take n) (eh ∙ ap (λ (m : ℕ). H.hash (be32 i ++ take m (drop at s))) k)
       ∙ ap (λ (m : ℕ). take m (H.hash (be32 i ++ take n (drop at s)))) (sym lx))
       (es ∙ ap (λ (m : ℕ). take at s ++ (take n h ++ drop (at + m) s)) ly) e
+
+  -- the same, where piece i begins at d * i and the next at d * (i + 1), which may lie behind the end
+  pub diffuse-turn : (i d n : ℕ) (s s' h q : List ℕ) → d ≡ H.size → d * i < length s → n ≡ min d (length s - d * i) → d ≤ length h → length s' ≡ length s
+      → take H.size h ≡ H.hash (be32 i ++ take (d * i + n - d * i) (drop (d * i) s)) → s' ≡ splice s (d * i) (take n h)
+      → take (d * i) s ++ in_pieces H.size (piece_digest H) i (drop (d * i) s) ≡ q
+      → take (d * (i + 1)) s' ++ in_pieces H.size (piece_digest H) (i + 1) (drop (d * (i + 1)) s') ≡ q
+  diffuse-turn i d n s s' h q ed ha en lh ls eh es e =
+      let m : d * (i + 1) ≡ d * i + d = mul-add d i 1 ∙ omega arith in
+      let k : d * i + n ≡ min (d * (i + 1)) (length s') = omega arith in
+      ap₂ (λ (x y : List ℕ). x ++ in_pieces H.size (piece_digest H) (i + 1) y)
+      (take_min (d * (i + 1)) (d * i + n) s' k) (drop_min (d * (i + 1)) (d * i + n) s' k)
+      ∙ diffuse-step (d * i) n i d s s' h q ed ha en lh eh es e
 
   -- its end
   pub diffuse-end : (at i : ℕ) (s q : List ℕ) → length s ≤ at → take at s ++ in_pieces H.size (piece_digest H) i (drop at s) ≡ q → s ≡ q

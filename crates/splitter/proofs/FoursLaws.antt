@@ -4,7 +4,7 @@ use mathlib.Core.List.{List, [], ◌∷◌, ◌++◌, append-nil}
 use Prim.Native.Nat.{ℕ, ◌+◌, ◌-◌, ◌*◌, ◌/◌, ◌%◌, ◌≤◌, ◌<◌}
 use native.Mathlib.Omega.{arith}
 use lib.ListN.{length, take, drop, length-take, length-append}
-use lib.Seq.{drop-length, take_all, take-append-add, length-take-le, sets, sets-eq}
+use lib.Seq.{take_all, take-append-add}
 use Rattle.octets.specs.Octets.{zeros, big_endian, be32_at, be32}
 use Rattle.octets.specs.Pieces.{pieces, in_pieces}
 use Rattle.octets.specs.Splice.{splice}
@@ -76,13 +76,14 @@ rows-piece d h =
     (written_out (λ (x : List ℕ). lane 3 (rows_of x) ≡ piece_block x 3) d h refl)
 
 -- so the words stored one after the other are the four blocks
-pub loaded : (d a b c e f : List ℕ) (w : List (List ℕ)) (x i : ℕ) → length d ≡ 64 → length w ≡ 96 → i < 4 → x ≡ be32_at d 60
+pub loaded : (d a b c e f : List ℕ) (w : List (List ℕ)) (x i : ℕ) → length d ≡ 64 → i < 4 → x ≡ be32_at d 60
     → a ≡ across d 0 x → b ≡ across d 4 0x80000000 → c ≡ across d 8 0 → e ≡ across d 12 0 → f ≡ across d 16 0
-    → take 16 (lane i (sets w 0 (piece_rows a b c e f))) ≡ piece_block d i
-loaded d a b c e f w x i h l hi ex ea eb ec ee ef =
+    → take 16 (lane i (splice w 0 (piece_rows a b c e f))) ≡ piece_block d i
+unfolding splice
+loaded d a b c e f w x i h hi ex ea eb ec ee ef =
     let e₁ : a ≡ across d 0 (be32_at d 60) = ea ∙ ap (λ (y : ℕ). across d 0 y) ex in
     let r : piece_rows a b c e f ≡ rows_of d = rw (e₁, eb, ec, ee, ef) in
-    ap (λ (v : List (List ℕ)). take 16 (lane i v)) (sets-eq (piece_rows a b c e f) w 0 (omega arith)) ∙ ap (lane i) r ∙ rows-piece d h i hi
+    ap (lane i) r ∙ rows-piece d h i hi
 
 -- ---- what is written back
 
@@ -108,8 +109,7 @@ diffuse-pieces d h =
 -- the chaining words of the four blocks make H
 pub diffused : (d out b s t u v : List ℕ) → length d ≡ 64 → length b ≡ 80 → s ≡ compress_words initial (piece_block d 0) → t ≡ compress_words initial (piece_block d 1)
     → u ≡ compress_words initial (piece_block d 2) → v ≡ compress_words initial (piece_block d 3) → b ≡ four_digests s t u v
-    → out ≡ splice d 0 (take 64 b) → out ≡ diffuse sha1 d
-unfolding splice
+    → out ≡ take 64 b → out ≡ diffuse sha1 d
 diffused d out b s t u v h lb es et eu ev eb eo =
     let l : (i : ℕ) → length (hashes d i) ≡ 20 = λ i. ((lawful-digest compression lawful).str_hash (be32 i ++ piece d i)).len in
     let whole : (i : ℕ) → take 20 (hashes d i) ≡ hashes d i = λ i. take_all 20 (hashes d i) (omega (arith, l i)) in
@@ -119,5 +119,4 @@ diffused d out b s t u v h lb es et eu ev eb eo =
     ap (take 64) e ∙ crop_64 (hashes d 0) (hashes d 1) (hashes d 2) (hashes d 3) (l 0) (l 1) (l 2) in
     let f : take 64 b ≡ diffuse sha1 d =
     c ∙ sym (diffuse-pieces d h ∙ rw (whole 0, whole 1, whole 2, append-nil (take 4 (hashes d 3)))) in
-    let n : 0 + length (take 64 b) ≡ length d = omega (arith, length-take-le 64 b (omega arith)) in
-    eo ∙ ap (λ (x : List ℕ). take 64 b ++ x) (ap (λ (k : ℕ). drop k d) n ∙ drop-length d) ∙ append-nil (take 64 b) ∙ f
+    eo ∙ f

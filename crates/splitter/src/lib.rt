@@ -1,5 +1,8 @@
 // The splitter of LUKS 1 with any of the hashes (LUKS 1.2.2, section 2.4), stripe by stripe. With SHA-1 the four pieces of a 64-byte
 // block are hashed side by side; all others one by one.
+// `length d.old < 2 ^ 32` stands in each contract: a type for such a block would be no plainer, as callers lend parts of longer strings.
+// The number of stripes stands beside the slices (count, m, n, with 1 ≤ n): the contracts hold for an empty block too, of which every number of
+// stripes has no byte, so that the lengths alone don't say it. d is written, hash and stripes are read: a struct of them has no other use.
 #![tactic(auto)]
 
 ghost use Rattle.std.specs.Prelude.{◌≡◌, ◌++◌, ◌+◌, ◌-◌, ◌*◌, ◌≤◌, ◌<◌, ◌^◌, length, take};
@@ -14,16 +17,15 @@ ghost use Rattle.splitter.specs.Fours.{piece_block, across};
 use hash::Hash;
 
 // The digest of a piece's number and the piece, at the front of 32 bytes.
+// (The digest of either hash in 32 bytes, as in hash; a piece is a part of d, not longer than a digest.)
 fn numbered_digest(hash: Hash, piece: &[u8], number: u32) -> [u8; 32]
     requires { length piece.now ≤ 32 }
     ensures { take (digest_of hash).size result ≡ (digest_of hash).hash (be32 number ++ piece.now) }
 {
     let mut b = [0u8; 36];
-    let x = octets::be32(number);
-    octets::copy_into(&mut b, 0, &x);
+    octets::copy_into(&mut b, 0, &octets::be32(number));
     octets::copy_into(&mut b, 4, piece);
-    let e = 4 + piece.len();
-    hash::digest(hash, &b[..e])
+    hash::digest(hash, &b[..4 + piece.len()])
 }
 
 // H, in place, piece by piece.
@@ -33,27 +35,27 @@ fn diffuse_pieces(d: &mut [u8], hash: Hash)
 {
     let len = d.len();
     let size = hash::size(hash);
-    let mut i: u32 = 0;
-    let mut at: usize = 0;
-    while at < len {
-        let n = octets::min(size, len - at);
-        let e = at + n;
-        let h = numbered_digest(hash, &d[at..e], i);
+    // By the pieces' numbers: after a loop over chunks_mut a proof knows nothing of what was written.
+    for i in 0..(len + (size - 1)) / size {
+        let at = size * i;
+        let n = size.min(len - at);
+        let h = numbered_digest(hash, &d[at..at + n], i as u32);
         octets::copy_into(d, at, &h[..n]);
-        at = e;
-        i += 1;
     }
 }
 
 // The words at index at of the first three pieces of d, and x for the last.
+// (Three words at pieces of 20 bytes and one that isn't: by an index the last would be a case.)
 fn across(d: &[u8], at: usize, x: u32) -> [u32; 4]
     requires { at + 44 ≤ length d.now }
     ensures { result ≡ across d.now at x }
 {
-    let a = octets::be32_at(d, at);
-    let b = octets::be32_at(d, at + 20);
-    let c = octets::be32_at(d, at + 40);
-    [a, b, c, x]
+    [
+        octets::be32_at(d, at),
+        octets::be32_at(d, at + 20),
+        octets::be32_at(d, at + 40),
+        x,
+    ]
 }
 
 // The blocks that are hashed for the four pieces of d, side by side in the first 16 words of w.
@@ -66,22 +68,25 @@ fn load_pieces(w: &mut [[u32; 4]; 96], d: &[u8])
     let zero = [0u32; 4];
     let bits = [192u32, 192, 192, 64];
     let x = octets::be32_at(d, 60);
-    w[0] = numbers;
-    w[1] = across(d, 0, x);
-    w[2] = across(d, 4, 0x80000000);
-    w[3] = across(d, 8, 0);
-    w[4] = across(d, 12, 0);
-    w[5] = across(d, 16, 0);
-    w[6] = one;
-    w[7] = zero;
-    w[8] = zero;
-    w[9] = zero;
-    w[10] = zero;
-    w[11] = zero;
-    w[12] = zero;
-    w[13] = zero;
-    w[14] = zero;
-    w[15] = bits;
+    let rows = [
+        numbers,
+        across(d, 0, x),
+        across(d, 4, 0x80000000),
+        across(d, 8, 0),
+        across(d, 12, 0),
+        across(d, 16, 0),
+        one,
+        zero,
+        zero,
+        zero,
+        zero,
+        zero,
+        zero,
+        zero,
+        zero,
+        bits,
+    ];
+    octets::copy_into(w, 0, &rows);
 }
 
 // H of a block of 64 bytes with SHA-1, in place: its four pieces side by side.
@@ -92,10 +97,11 @@ fn diffuse_64(d: &mut [u8])
     let mut w = [[0u32; 4]; 96];
     load_pieces(&mut w, d);
     let b = lanes::store(lanes::compress(&mut w, lanes::broadcast(hash::start(Hash::Sha1))));
-    octets::copy_into(d, 0, &b[..64]);
+    d.copy_from_slice(&b[..64]);
 }
 
 // H, in place.
+// (The hash is matched where SHA-1 has a way of its own for 64 bytes; the image says which it is as the program runs.)
 pub fn diffuse_in(d: &mut [u8], hash: Hash)
     requires { length d.old < 2 ^ 32 }
     ensures { d.new ≡ diffuse (digest_of hash) d.old }
@@ -127,13 +133,10 @@ pub fn add_stripes(d: &mut [u8], hash: Hash, stripes: &[u8], count: usize)
     ensures { d.new ≡ running (diffuse (digest_of hash)) (length d.old) d.old count stripes.now }
 {
     let l = d.len();
-    let mut m: usize = 0;
-    let mut at: usize = 0;
-    while m < count {
-        let e = at + l;
-        add_stripe(d, hash, &stripes[at..e]);
-        at = e;
-        m += 1;
+    // By the stripes' numbers: chunks_exact asks that a stripe has a byte, which no caller promises.
+    for m in 0..count {
+        let at = m * l;
+        add_stripe(d, hash, &stripes[at..at + l]);
     }
 }
 

@@ -1,201 +1,223 @@
-// Damaged copies: every call gives the header check's number, whatever else it is handed.
+// Damaged copies: every call gives the header check's refusal, whatever else it is handed.
 use crate::shown;
-use header::PayloadUnit;
+use header::{PayloadUnit, Refusal, Refused};
+use keyslot::SlotInput;
+use opening::Opened;
+use reports::Tried;
 use std::io;
 
+// The number's four bytes at an index, where the image has four there.
+// (octets::copy_into asks that the four are there.)
 fn put_be32(image: &mut [u8], at: usize, value: u32) {
-    if image.len() < 4 {
-        return;
+    if let Some(rest) = image.get_mut(at..) {
+        if let Some(four) = rest.first_chunk_mut() {
+            *four = value.to_be_bytes();
+        }
     }
-    if image.len() - 4 < at {
-        return;
-    }
-    let bytes = octets::be32(value);
-    octets::copy_into(image, at, &bytes);
 }
 
-fn openings_refuse(image: &[u8], number: u8) -> bool {
-    let numbered = opening::open_slot(image, 1, b"first passphrase");
-    let searched = opening::open(image, b"first passphrase");
-    let first = numbered.refusal;
-    let second = searched.refusal;
-    let free = numbered.values == 0 && searched.values == 0;
-    header::number_of(first) == number && header::number_of(second) == number && free
+// Is it refused for this, with no value of HMAC made?
+fn refuses(answer: Result<Opened, Refused>, refusal: Refusal) -> bool {
+    answer.is_err_and(|r| r.refusal == refusal && r.values == 0)
 }
 
-// The numbers of calls on nothing.
-fn read_none(image: &[u8]) -> u8 {
-    let mut none = [0u8; 0];
-    reports::number_of(payload::read(image, b"", PayloadUnit(0), PayloadUnit(0), &mut none))
+fn openings_refuse(image: &[u8], refusal: Refusal) -> bool {
+    let numbered = refuses(opening::open_slot(image, 1, b"first passphrase"), refusal);
+    let searched = refuses(opening::open(image, b"first passphrase"), refusal);
+    numbered && searched
 }
 
-fn write_none(image: &mut [u8]) -> u8 {
-    reports::number_of(payload::write(image, b"", PayloadUnit(0), PayloadUnit(0), b""))
+// Why calls on nothing are refused.
+fn read_none(image: &[u8]) -> Option<Refusal> {
+    reports::refusal_of(payload::read(image, b"", PayloadUnit(0), PayloadUnit(0), &mut []))
 }
 
-fn add_none(image: &mut [u8]) -> u8 {
-    let salt = [0u8; 32];
-    let mut none = [0u8; 0];
-    reports::number_of(adding::add(image, 3, b"", b"", &salt, 0, b"", &mut none))
+fn write_none(image: &mut [u8]) -> Option<Refusal> {
+    reports::refusal_of(payload::write(image, b"", PayloadUnit(0), PayloadUnit(0), b""))
 }
 
-fn revoke_none(image: &mut [u8]) -> u8 {
-    let mut none = [0u8; 0];
-    reports::number_of(revoking::revoke(image, 1, b"", &mut none))
+fn add_none(image: &mut [u8]) -> Option<Refusal> {
+    let none = SlotInput {
+        passphrase: b"",
+        salt: &[0; 32],
+        count: 0,
+        random: b"",
+    };
+    reports::refusal_of(adding::add(image, 3, b"", none, &mut []))
 }
 
-fn changes_refuse(image: &mut [u8], number: u8) -> bool {
+fn revoke_none(image: &mut [u8]) -> Option<Refusal> {
+    reports::refusal_of(revoking::revoke(image, 1, b"", &mut []))
+}
+
+fn changes_refuse(image: &mut [u8], refusal: Refusal) -> bool {
     let revoked = revoke_none(image);
     let read = read_none(image);
     let written = write_none(image);
     let added = add_none(image);
-    revoked == number && read == number && written == number && added == number
+    [revoked, read, written, added] == [Some(refusal); 4]
 }
 
-// All calls on the image with the four bytes at index at changed; then they are put back.
-fn damaged(
-    rt: &impl Print,
-    image: &mut [u8],
-    drive: u64,
-    what: &[u8],
+// Do all calls refuse the image for this?
+fn all_refuse(image: &mut [u8], refusal: Refusal) -> bool {
+    let opened = openings_refuse(image, refusal);
+    let screened = shown::screens_refuse(image, refusal);
+    let changed = changes_refuse(image, refusal);
+    opened && screened && changed
+}
+
+// The four bytes at an index, changed to this value, and why the image is then refused.
+struct Field {
+    what: &'static [u8],
     at: usize,
     value: u32,
-    number: u8,
-) -> io::Result<()> {
-    let kept = reports::be32_at(image, at);
-    put_be32(image, at, value);
-    let opened = openings_refuse(image, number);
-    let screened = shown::screens_are(image, number, &[0u8; 8]);
-    let changed = changes_refuse(image, number);
-    put_be32(image, at, kept);
-    reports::line(rt, drive, what, opened && screened && changed)
-}
-
-// All calls on the image's first len bytes.
-fn cut(
-    rt: &impl Print,
-    image: &mut [u8],
-    drive: u64,
-    what: &[u8],
-    len: usize,
-    number: u8,
-) -> io::Result<()> {
-    if image.len() < len {
-        return reports::line(rt, drive, what, false);
-    }
-    let at: usize = 0;
-    let opened = openings_refuse(&image[at..len], number);
-    let screened = shown::screens_are(&image[at..len], number, &[0u8; 8]);
-    let changed = changes_refuse(&mut image[at..len], number);
-    reports::line(rt, drive, what, opened && screened && changed)
-}
-
-pub fn start_of_header(rt: &impl Print, image: &mut [u8], drive: u64) -> io::Result<()> {
-    damaged(rt, image, drive, b"damaged magic (2)", 0, 0x4C554B54, 2)?;
-    damaged(rt, image, drive, b"version 2 (3)", 4, 0xBABE0002, 3)
-}
-
-pub fn names(rt: &impl Print, image: &mut [u8], drive: u64) -> io::Result<()> {
-    damaged(
-        rt,
-        image,
-        drive,
-        b"another cipher name (4)",
-        8,
-        0x61657200,
-        4,
-    )?;
-    damaged(
-        rt,
-        image,
-        drive,
-        b"another cipher mode (4)",
-        40,
-        0x63746200,
-        4,
-    )?;
-    damaged(rt, image, drive, b"another hash (4)", 72, 0x6D643500, 4)
-}
-
-pub fn numbers(rt: &impl Print, image: &mut [u8], drive: u64) -> io::Result<()> {
-    damaged(rt, image, drive, b"16 key bytes (4)", 108, 16, 4)?;
-    damaged(rt, image, drive, b"checksum count 0 (5)", 164, 0, 5)?;
-    damaged(
-        rt,
-        image,
-        drive,
-        b"payload start inside an area (6)",
-        104,
-        1801,
-        6,
-    )?;
-    damaged(
-        rt,
-        image,
-        drive,
-        b"payload start beyond the image (6)",
-        104,
-        4049,
-        6,
-    )
+    refusal: Refusal,
 }
 
 // Slot 1's record is at 208, the free slot 3's at 304.
-pub fn records(rt: &impl Print, image: &mut [u8], drive: u64) -> io::Result<()> {
-    damaged(
-        rt,
-        image,
-        drive,
-        b"slot 3 in another state (5)",
-        304,
-        0x00AC71F2,
-        5,
-    )?;
-    damaged(
-        rt,
-        image,
-        drive,
-        b"slot 1 enabled with count 0 (5)",
-        212,
-        0,
-        5,
-    )?;
-    damaged(rt, image, drive, b"slot 3 with 0 stripes (5)", 348, 0, 5)?;
-    damaged(
-        rt,
-        image,
-        drive,
-        b"slot 3 with 4,001 stripes (5)",
-        348,
-        4001,
-        5,
-    )
+const FIELDS: [Field; 15] = [
+    Field {
+        what: b"damaged magic",
+        at: 0,
+        value: 0x4C554B54,
+        refusal: Refusal::Magic,
+    },
+    Field {
+        what: b"version 2",
+        at: 4,
+        value: 0xBABE0002,
+        refusal: Refusal::Version,
+    },
+    Field {
+        what: b"another cipher name",
+        at: 8,
+        value: 0x61657200,
+        refusal: Refusal::NoProfile,
+    },
+    Field {
+        what: b"another cipher mode",
+        at: 40,
+        value: 0x63746200,
+        refusal: Refusal::NoProfile,
+    },
+    Field {
+        what: b"another hash",
+        at: 72,
+        value: 0x6D643500,
+        refusal: Refusal::NoProfile,
+    },
+    Field {
+        what: b"16 key bytes",
+        at: 108,
+        value: 16,
+        refusal: Refusal::NoProfile,
+    },
+    Field {
+        what: b"checksum count 0",
+        at: 164,
+        value: 0,
+        refusal: Refusal::BadRecord,
+    },
+    Field {
+        what: b"payload start inside an area",
+        at: 104,
+        value: 1801,
+        refusal: Refusal::BadArea,
+    },
+    Field {
+        what: b"payload start beyond the image",
+        at: 104,
+        value: 4049,
+        refusal: Refusal::BadArea,
+    },
+    Field {
+        what: b"slot 3 in another state",
+        at: 304,
+        value: 0x00AC71F2,
+        refusal: Refusal::BadRecord,
+    },
+    Field {
+        what: b"slot 1 enabled with count 0",
+        at: 212,
+        value: 0,
+        refusal: Refusal::BadRecord,
+    },
+    Field {
+        what: b"slot 3 with 0 stripes",
+        at: 348,
+        value: 0,
+        refusal: Refusal::BadRecord,
+    },
+    Field {
+        what: b"slot 3 with 4,001 stripes",
+        at: 348,
+        value: 4001,
+        refusal: Refusal::BadRecord,
+    },
+    Field {
+        what: b"slot 3's area at sector 1",
+        at: 344,
+        value: 1,
+        refusal: Refusal::BadArea,
+    },
+    Field {
+        what: b"slot 3's area over slot 1's",
+        at: 344,
+        value: 9,
+        refusal: Refusal::BadArea,
+    },
+];
+
+// All calls on the image with one field changed; then it is put back.
+pub fn fields(t: &Tried<'_, impl Print>, image: &mut [u8]) -> io::Result<()> {
+    for field in &FIELDS {
+        let kept = reports::be32_at(image, field.at);
+        put_be32(image, field.at, field.value);
+        let refused = all_refuse(image, field.refusal);
+        put_be32(image, field.at, kept);
+        t.line(field.what, Some(field.refusal), refused)?;
+    }
+    Ok(())
 }
 
-pub fn areas(rt: &impl Print, image: &mut [u8], drive: u64) -> io::Result<()> {
-    damaged(
-        rt,
-        image,
-        drive,
-        b"slot 3's area at sector 1 (6)",
-        344,
-        1,
-        6,
-    )?;
-    damaged(
-        rt,
-        image,
-        drive,
-        b"slot 3's area over slot 1's (6)",
-        344,
-        9,
-        6,
-    )
+// The image's first len bytes, and why they are refused.
+struct Cut {
+    what: &'static [u8],
+    len: usize,
+    refusal: Refusal,
 }
 
-pub fn lengths(rt: &impl Print, image: &mut [u8], drive: u64) -> io::Result<()> {
-    cut(rt, image, drive, b"cut to 512 bytes (1)", 512, 1)?;
-    cut(rt, image, drive, b"cut inside a sector (1)", 1025, 1)?;
-    cut(rt, image, drive, b"cut after the header (6)", 1024, 6)?;
-    cut(rt, image, drive, b"cut before the payload (6)", 1052160, 6)
+const CUTS: [Cut; 4] = [
+    Cut {
+        what: b"cut to 512 bytes",
+        len: 512,
+        refusal: Refusal::ImageSize,
+    },
+    Cut {
+        what: b"cut inside a sector",
+        len: 1025,
+        refusal: Refusal::ImageSize,
+    },
+    Cut {
+        what: b"cut after the header",
+        len: 1024,
+        refusal: Refusal::BadArea,
+    },
+    Cut {
+        what: b"cut before the payload",
+        len: 1052160,
+        refusal: Refusal::BadArea,
+    },
+];
+
+// All calls on the image, cut.
+pub fn lengths(t: &Tried<'_, impl Print>, image: &mut [u8]) -> io::Result<()> {
+    for cut in &CUTS {
+        let refused = match image.get_mut(..cut.len) {
+            Some(front) => all_refuse(front, cut.refusal),
+            None => false,
+        };
+        t.line(cut.what, Some(cut.refusal), refused)?;
+    }
+    Ok(())
 }

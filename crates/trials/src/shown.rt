@@ -1,64 +1,40 @@
-// The two screens of a drive: which slots are enabled, and the records' numbers beside it; zeros beside a refusal's number.
+// The two screens of a drive: which slots are enabled, and the records' numbers beside it.
+use header::Refusal;
+use reports::Tried;
 use screens::Entry;
 use std::io;
 
-// A number of the record of the slot at index i, counted from 0, where the header is accepted.
-fn field(image: &[u8], number: u8, i: usize, at: usize) -> u32 {
-    if number != 0 {
-        return 0;
-    }
-    if 8 <= i {
-        return 0;
-    }
-    if 48 <= at {
-        return 0;
-    }
-    reports::be32_at(image, 208 + i * 48 + at)
+// Has the entry this bit, and the numbers of this record?
+fn entry_is(entry: Entry, enabled: bool, record: &[u8]) -> bool {
+    entry.enabled == enabled
+        && entry.count == reports::be32_at(record, 4)
+        && entry.start.0 == reports::be32_at(record, 40)
+        && entry.stripes == reports::be32_at(record, 44)
 }
 
-fn entry_is(image: &[u8], number: u8, i: usize, entry: Entry) -> bool {
-    let count = field(image, number, i, 4);
-    let start = field(image, number, i, 40);
-    let stripes = field(image, number, i, 44);
-    entry.count == count && entry.start.0 == start && entry.stripes == stripes
+// Are these the second screen's bits, beside the numbers of every record? The records stand from 208 on.
+fn details_are(image: &[u8], enabled: &[bool; 8]) -> bool {
+    let (Ok(entries), Some(records)) = (screens::slot_details(image), image.get(208..592)) else {
+        return false;
+    };
+    let mut shown = entries.iter().zip(enabled).zip(records.chunks_exact(48));
+    shown.all(|((entry, bit), record)| entry_is(*entry, *bit, record))
 }
 
-// Are these the second screen's number and bits, beside the numbers of every record?
-fn details_are(image: &[u8], number: u8, enabled: &[u8; 8]) -> bool {
-    let s = screens::slot_details(image);
-    let entries = s.entries;
-    let r = s.refusal;
-    let mut i: usize = 0;
-    while i < 8 {
-        let e = entries[i];
-        if e.enabled != enabled[i] {
-            return false;
-        }
-        if !entry_is(image, number, i, e) {
-            return false;
-        }
-        i += 1;
-    }
-    header::number_of(r) == number
-}
-
-// Are these the number and the bits of both screens?
-pub fn screens_are(image: &[u8], number: u8, enabled: &[u8; 8]) -> bool {
-    let s = screens::slots(image);
-    let bits = s.enabled;
-    let r = s.refusal;
-    let first = header::number_of(r) == number && octets::equal(&bits, enabled);
-    let second = details_are(image, number, enabled);
+// Are both screens refused for this?
+pub fn screens_refuse(image: &[u8], refusal: Refusal) -> bool {
+    let first = screens::slots(image).is_err_and(|r| r == refusal);
+    let second = screens::slot_details(image).is_err_and(|r| r == refusal);
     first && second
 }
 
+// Do both screens show these bits?
 pub fn shows(
-    rt: &impl Print,
-    drive: u64,
+    t: &Tried<'_, impl Print>,
     what: &[u8],
     image: &[u8],
-    enabled: &[u8; 8],
+    enabled: &[bool; 8],
 ) -> io::Result<()> {
-    let ok = screens_are(image, 0, enabled);
-    reports::line(rt, drive, what, ok)
+    let first = screens::slots(image).is_ok_and(|bits| bits == *enabled);
+    t.line(what, None, first && details_are(image, enabled))
 }

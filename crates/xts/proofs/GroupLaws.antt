@@ -1,5 +1,6 @@
 -- Up to 32 blocks of a data unit at a time, as words: the tweaks, what is loaded and stored, and the sum with the tweaks.
-use Rattle.std.proofs.Common.{◌≡◌, ℕ, zero, suc, ◌+◌, ◌-◌, ◌*◌, ◌/◌, ◌%◌, ◌^◌, ◌<◌, ◌≤◌, min, Bool, List, [], ◌∷◌, ◌++◌, length, get_or, take, drop, set, sym, refl, ap, ◌∙◌, ap₂, ⊎_elim, append_assoc, le_refl, mod-eq_of_lt, add_comm, eq-or-lt_of_le, add-one, arith, length-drop, length-set, take-append-drop, get_or-set_other, get_or-set_same, drop-drop}
+use Rattle.std.proofs.Common.{◌≡◌, ℕ, zero, suc, ◌+◌, ◌-◌, ◌*◌, ◌/◌, ◌%◌, ◌^◌, ◌<◌, ◌≤◌, min, Bool, List, [], ◌∷◌, ◌++◌, length, get_or, take, drop, set, sym, refl, ap, ◌∙◌, ap₂, ⊎_elim, append_assoc, le_refl, mod-eq_of_lt, add_comm, eq-or-lt_of_le, add-one, arith, length-drop, length-set, take-append-drop, get_or-set_other, get_or-set_same, drop-drop, subst, shr-shr, w32}
+use Rattle.std.specs.Int.{to_le_bytes}
 use lib.Bits.{bit_xor}
 use lib.Pow.{high, split}
 use Rattle.octets.specs.Octets.{◌⊕◌, xors}
@@ -15,6 +16,7 @@ use Rattle.cipher.proofs.RoundLaws.{four-columns, stored, length-stored, stored_
 use Rattle.xts.specs.Xts.{little_endian, unit_block, double, block, blocks, data_unit}
 use Rattle.xts.specs.Keys.{tweak_at, Firsts, Under, cipher_of}
 use Rattle.xts.proofs.LittleLaws.{little_endian-low, little_endian-4-4}
+use Rattle.xts.proofs.UnitLaws.{unit_more, group_more}
 
 -- ---- a column is four bytes, the lowest first
 
@@ -26,20 +28,25 @@ low_word : (x : ℕ) → column (x % 4294967296) ≡ little_endian 4 x
 low_word x = column-is (x % 4294967296) ∙ sym (little_endian-low 4 (x / 2 ^ 32) (x % 2 ^ 32)) ∙ ap (little_endian 4) (split x 32)
 
 -- a number of eight bytes in two columns
-two-columns : (x : ℕ) → column (x % 4294967296) ++ column (x / 4294967296) ≡ little_endian 8 x
+pub two-columns : (x : ℕ) → column (x % 4294967296) ++ column (x / 4294967296) ≡ little_endian 8 x
 two-columns x = ap₂ ◌++◌ (low_word x) (column-is (x / 4294967296)) ∙ sym (little_endian-4-4 x)
 
-pub four-words : (lo hi : ℕ) → column (lo % 4294967296) ++ (column (lo / 4294967296) ++ (column (hi % 4294967296) ++ column (hi / 4294967296)))
-    ≡ little_endian 8 lo ++ little_endian 8 hi
-four-words lo hi =
-    sym (append_assoc (column (lo % 4294967296)) (column (lo / 4294967296)) (column (hi % 4294967296) ++ column (hi / 4294967296)))
-    ∙ ap₂ ◌++◌ (two-columns lo) (two-columns hi)
+pub four-columns-of : (w x y z lo hi : ℕ) → column w ++ column x ≡ little_endian 8 lo → column y ++ column z ≡ little_endian 8 hi
+    → column w ++ (column x ++ (column y ++ column z)) ≡ little_endian 8 lo ++ little_endian 8 hi
+four-columns-of w x y z lo hi e f = sym (append_assoc (column w) (column x) (column y ++ column z)) ∙ ap₂ ◌++◌ e f
 
 pub join-columns : (p q : ℕ) → p < 2 ^ 32 → little_endian 8 (p + q * 4294967296) ≡ column p ++ column q
 join-columns p q h =
     ap (little_endian 8) (add_comm p (q * 4294967296)) ∙ little_endian-4-4 (q * 2 ^ 32 + p)
     ∙ ap₂ (λ (x : List ℕ) (y : ℕ). x ++ little_endian 4 y) (little_endian-low 4 q p) (high q 32 h)
     ∙ ap₂ ◌++◌ (sym (column-is p)) (sym (column-is q))
+
+-- as the integers' own method has them
+pub column-bytes : (x : ℕ) → to_le_bytes w32 x ≡ column x
+unfolding column
+column-bytes x =
+    ap (λ (r : List ℕ). x % 256 ∷ x / 256 % 256 ∷ r)
+    (ap₂ (λ (y z : ℕ). y % 256 ∷ z % 256 ∷ []) (sym (shr-shr x 8 8)) (sym (ap (λ (n : ℕ). n / 256) (shr-shr x 8 8) ∙ shr-shr x 16 8)))
 
 pub block_tweak : (q : List ℕ) (b lo hi : ℕ) → little_endian 8 lo ≡ column (get_or q (4 * b) 0) ++ column (get_or q (4 * b + 1) 0)
     → little_endian 8 hi ≡ column (get_or q (4 * b + 2) 0) ++ column (get_or q (4 * b + 3) 0) → little_endian 8 lo ++ little_endian 8 hi ≡ planes.block b q
@@ -212,13 +219,32 @@ unit_under forward n k b u ks vs t x s' s f g h hb e hu ex es =
     ∙ ap (λ (y : List ℕ). blocks (cipher_of forward n g.blocks) (length s / 16) y s) (ex ∙ first-at n k b u vs t g.tweaks h g.for_tweak hb e hu)
     ∙ sym (ap (λ (i : ℕ → List ℕ → List ℕ). i u s) g.is)
 
--- ---- the next part of a string, of at most D bytes
+-- ---- part i of a string s of N bytes, of D bytes or what is left: y is what became of it
 
-pub next-inside : (D at k n : ℕ) → at ≤ n → k ≡ min D (n - at) → at + k ≤ n
-next-inside D at k n h e = omega arith
+module _ (f : ℕ → List ℕ → List ℕ) (u N i k : ℕ) (s y q : List ℕ) (ls : length s ≡ N) where
+  abbrev part_put : ℕ → List ℕ
+  part_put D = take (D * i) s ++ (y ++ drop (D * i + k - D * i) (drop (D * i) s))
 
-pub next-whole : (D at k n : ℕ) → D % 16 ≡ 0 → at ≤ n → n % 16 ≡ 0 → at % 16 ≡ 0 → k ≡ min D (n - at) → (at + k) % 16 ≡ 0
-next-whole D at k n hD h hn ha e = omega arith
+  pub next_unit : 512 * i < N → k ≡ min 512 (N - 512 * i) → length y ≡ 512 * i + k - 512 * i → y ≡ f (u + i) (take (512 * i + k - 512 * i) (drop (512 * i) s))
+      → take (min (512 * i) N) s ++ in_units f (u + i) (drop (min (512 * i) N) s) ≡ q
+      → take (min (512 * (i + 1)) N) (part_put 512) ++ in_units f (u + (i + 1)) (drop (min (512 * (i + 1)) N) (part_put 512)) ≡ q
+  next_unit h hk ly ey e =
+      let a : min (512 * i) N ≡ 512 * i = omega arith in
+      let b : min (512 * (i + 1)) N ≡ 512 * i + k = omega arith in
+      let P : ℕ → List ℕ → ℕ → Type 0 = λ n x v. take n x ++ in_units f v (drop n x) ≡ q in
+      subst (λ (n : ℕ). P n (part_put 512) (u + (i + 1))) (sym b)
+      (unit_more (512 * i) k s y q (omega arith) ly f (u + i) (u + (i + 1)) (subst (λ (n : ℕ). P n s (u + i)) a e) (omega (arith, hk, ls)) (λ l. omega arith) ey)
 
-pub from_first : (f : ℕ → List ℕ → List ℕ) (u : ℕ) (s : List ℕ) → in_units f (u + 0) s ≡ in_units f u s
-from_first f u s = ap (λ (n : ℕ). in_units f n s) (let z : u + 0 ≡ u = omega arith in z)
+  pub next_group : 16384 * i < N → k ≡ min 16384 (N - 16384 * i) → length y ≡ 16384 * i + k - 16384 * i
+      → y ≡ in_units f (u + 32 * i) (take (16384 * i + k - 16384 * i) (drop (16384 * i) s))
+      → take (min (16384 * i) N) s ++ in_units f (u + 32 * i) (drop (min (16384 * i) N) s) ≡ q
+      → take (min (16384 * (i + 1)) N) (part_put 16384) ++ in_units f (u + 32 * (i + 1)) (drop (min (16384 * (i + 1)) N) (part_put 16384)) ≡ q
+  next_group h hk ly ey e =
+      let a : min (16384 * i) N ≡ 16384 * i = omega arith in
+      let b : min (16384 * (i + 1)) N ≡ 16384 * i + k = omega arith in
+      let P : ℕ → List ℕ → ℕ → Type 0 = λ n x v. take n x ++ in_units f v (drop n x) ≡ q in
+      subst (λ (n : ℕ). P n (part_put 16384) (u + 32 * (i + 1))) (sym b)
+      (group_more (16384 * i) k s y q (omega arith) ly f (u + 32 * i) (u + 32 * (i + 1)) (subst (λ (n : ℕ). P n s (u + 32 * i)) a e) (omega (arith, hk, ls)) (λ l. omega arith) ey)
+
+pub no_part : (f : ℕ → List ℕ → List ℕ) (u v n : ℕ) (s : List ℕ) → n ≡ 0 → v ≡ u → take n s ++ in_units f v (drop n s) ≡ in_units f u s
+no_part f u v n s en ev = rw (en, ev)

@@ -5,7 +5,7 @@ use Rattle.aes.specs.Planes.{Sliced}
 use Rattle.aes.specs.Planes as planes
 use Rattle.xts.specs.Xts.{little_endian, unit_block, double, data_unit, data_key, tweak_key}
 use Rattle.xts.specs.declared.Tweak.{Tweak}
-use Rattle.xts.specs.declared.Keys.{Keys}
+use Rattle.xts.specs.declared.schedules.Keys.{Keys}
 
 -- the 16 bytes of a tweak
 unfoldable pub tweak_bytes : Tweak → List ℕ

@@ -1,6 +1,0 @@
--- The array's length, by the law on zeros.
-use Rattle.slot_trials.proofs.MadeLaws.{zeros-length}
-use Rattle.slot_trials.proofs.made.filler_256.Goals as goal
-
-pub returns : goal.returns
-returns c = zeros-length 128000

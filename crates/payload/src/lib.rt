@@ -56,11 +56,10 @@ fn range_check(
     ensures { checked result ≡ first (range_checks (facts_in drive.entry.image.now) key.now from.0 units.0 buffer.now) }
 {
     ensure(drive.key_ok(key), Refusal::KeyLength)?;
-    ensure(
-        in_payload(payload_units(drive), from, units),
-        Refusal::BadRange,
-    )?;
-    ensure(holds_units(buffer.len(), units), Refusal::BadBuffer)?;
+    let inside = in_payload(payload_units(drive), from, units);
+    let whole = holds_units(buffer.len(), units);
+    ensure(inside, Refusal::BadRange)?;
+    ensure(whole, Refusal::BadBuffer)?;
     Ok(())
 }
 
@@ -107,7 +106,8 @@ pub fn read(
 {
     let drive = Drive::check(image)?;
     range_check(drive, key, from, units, buffer)?;
-    let values = slots::test_key(drive, key)?; // 17: nothing is read
+    let test = slots::key_matches(drive, key);
+    let values = slots::tested(test)?; // 17: nothing is read
     read_units(buffer, drive, key, from, units);
     Ok(values) // of a read of 0 units too
 }
@@ -126,7 +126,8 @@ pub fn write(
 {
     let drive = Drive::check(image)?;
     range_check(drive, key, from, units, buffer)?;
-    let values = slots::test_key(drive, key)?; // 17: nothing is written
+    let test = slots::key_matches(drive, key);
+    let values = slots::tested(test)?; // 17: nothing is written
     write_units(image, key, from, units, buffer);
     Ok(values) // of a write of 0 units too
 }

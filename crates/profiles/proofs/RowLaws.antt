@@ -1,19 +1,21 @@
--- The code's table is the rules', row by row, and its lookups are those of the rules. All is over any rows whose names have no zero byte.
+-- The code's table is the rules', row by row, and its lookups are those of the rules. All is over any rows: those by a header where no name has a zero
+-- byte, that a row is the one with its number where no number stands twice.
 use mathlib.Core.Path.{◌≡◌, refl, sym, ap, ap₂, ◌∙◌, subst}
 use mathlib.Core.Logic.{◌≢◌}
 use mathlib.Core.List.{List, [], ◌∷◌, ◌++◌, map}
-use mathlib.Core.Bool.{Bool, true, false, ◌&&◌, ◌||◌, cond}
+use mathlib.Core.Bool.{Bool, true, false, ◌&&◌, ◌||◌, not, cond}
 use Prim.Native.Nat.{ℕ, zero, suc, ◌+◌, ◌-◌, ◌≤◌, ◌<◌}
 use native.Mathlib.Numerals.{add-one}
 use native.Mathlib.Omega.{arith}
 use lib.Dec.{eqb, leb, ltb}
 use lib.ListN.{length, take, drop, get_or, replicate, drop_of_length-le}
 use lib.Seq.{drop-cons}
-use borrow.Author.Tests.{eq-eqb, ne_eqb, eqb-true, leb-true}
+use borrow.Author.Tests.{eq-eqb, ne_eqb, eqb-true, leb-true, not-true}
 use Rattle.octets.specs.Octets.{same, zeros, padded}
-use Rattle.octets.proofs.BoolLaws.{and_split, and_no, and_yes, or_yes, or_no}
+use Rattle.octets.proofs.BoolLaws.{no, and_split, and_no, and_yes, or_yes, or_no}
 use Rattle.rules.specs.Checks.{every}
 use Rattle.rules.specs.Profiles as rules
+use Rattle.rules.specs.Lawful.{distinct}
 use Rattle.profiles.specs.Rows.{name_of, hash_of, aes_xts_row, rows}
 use Rattle.profiles.specs.declared.Profile.{Profile}
 use Rattle.profiles.specs.Records.{IsProfile, IsRow, number_found, same_text, has_row}
@@ -171,21 +173,41 @@ names-ok : every names_ok rows ≡ true
 unfolding every name_of hash_of aes_xts_row rows
 names-ok = refl
 
+-- r says what the row with number k says
+row_in : List rules.Profile → ℕ → Profile → Type 0
+row_in ps k r = (rules.known ps k ≡ true) × IsProfile r (rules.profile_at ps k)
+
+each_more : (Q R : Profile → Type 0) → ((r : Profile) → Q r → R r) → (xs : List Profile) → each Q xs → each R xs
+each_more Q R f [] a = tt
+each_more Q R f (x ∷ xs) a = (f x a.0, each_more Q R f xs a.1)
+
+-- a row in front has another number, so the rest's rows are found behind it
+row_behind : (p : rules.Profile) (ps : List rules.Profile) → rules.known ps p.number ≡ false → (r : Profile) → row_in ps r.number r → row_in (p ∷ ps) r.number r
+unfolding row_in rules.known rules.profile_at
+row_behind p ps new r h =
+    let apart : eqb p.number r.number ≡ false = ne_eqb p.number r.number (λ e. no (sym new ∙ ap (rules.known ps) e ∙ h.0)) in
+    (rw apart h.0, rw apart h.1)
+
+-- in any rows in which no number stands twice, each row of the code's table says what the row with its number says
+each_row : (ps : List rules.Profile) → distinct ps ≡ true → each (λ r. row_in ps r.number r) (map coded ps)
+unfolding row_in distinct rules.known rules.profile_at
+each_row [] d = tt
+each_row (p ∷ ps) d =
+    let apart = and_split (not (rules.known ps p.number)) (distinct ps) d in
+    let same : eqb p.number p.number ≡ true = eq-eqb p.number p.number refl in (
+      (rw same refl, rw same (coded-is p)),
+      each_more (λ r. row_in ps r.number r) (λ r. row_in (p ∷ ps) r.number r) (row_behind p ps (not-true (rules.known ps p.number) apart.0)) (map coded ps)
+          (each_row ps apart.1),
+    )
+
+distinct-ok : distinct rows ≡ true
+unfolding distinct rules.known aes_xts_row rows
+distinct-ok = refl
+
 all_rows : each (λ r. IsRow r.number r) (map coded rows)
-unfolding aes_xts_row rows rules.known rules.profile_at
-all_rows = (
-  record { known_is = refl; profile_is = coded-is (aes_xts_row 1 32) },
-  (
-    record { known_is = refl; profile_is = coded-is (aes_xts_row 2 64) },
-    (
-      record { known_is = refl; profile_is = coded-is (aes_xts_row 3 32) },
-      (
-        record { known_is = refl; profile_is = coded-is (aes_xts_row 4 64) },
-        tt,
-      ),
-    ),
-  ),
-)
+unfolding row_in
+all_rows =
+    each_more (λ r. row_in rows r.number r) (λ r. IsRow r.number r) (λ r h. record { known_is = h.0; profile_is = h.1 }) (map coded rows) (each_row rows distinct-ok)
 
 pub with_number-row : (n : ℕ) → IfSome (find (λ r. nat_eq r.number n) (map coded rows)) (IsRow n)
 with_number-row n =

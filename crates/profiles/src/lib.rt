@@ -1,7 +1,7 @@
 // The table of profiles in code, looked up by number and by a header's fields.
 #![tactic(auto)]
 
-ghost use Rattle.std.specs.Prelude.{◌≡◌, true, length, is_some, IfSome};
+ghost use Rattle.std.specs.Prelude.{◌≡◌, true, length, nat_eq, is_some, IfSome};
 ghost use Rattle.std.specs.List.{find};
 ghost use Rattle.rules.specs.Profiles.{number_of, known, profile_at};
 ghost use Rattle.profiles.specs.Rows.{hash_of, rows};
@@ -135,12 +135,19 @@ pub fn of_header(
     first_fit(&PROFILES, cipher, mode, hash, key_bytes)
 }
 
+// The first of these rows that has this number, which is 01's, as in with_number.
+fn first_numbered(table: &[Profile], number: u8) -> Option<Profile>
+    ensures { result ≡ find (λ r. nat_eq r.number number) table.now }
+{
+    table.iter().copied().find(|p| p.number == number)
+}
+
 // The profile with this number.
 pub fn with_number(number: u8) -> Option<Profile>
     ensures known { is_some result ≡ known rows number }
     ensures row { IfSome result (IsRow number) }
 {
-    PROFILES.iter().copied().find(|p| p.number == number)
+    first_numbered(&PROFILES, number)
 }
 
 // The profile with this number, which the table has.

@@ -11,7 +11,7 @@ ghost use Rattle.rules.specs.Costs.{derivation_cost};
 ghost use Rattle.keyslot.specs.Input.{input_of};
 ghost use Rattle.header.specs.Records.{facts_in, HeaderOk};
 ghost use Rattle.header.specs.States.{state_number};
-ghost use Rattle.slots.specs.Trials.{IsTest, IsTested, IsTrial};
+ghost use Rattle.slots.specs.Trials.{tested, IsTest, IsTested, IsTrial};
 
 use header::{Drive, Head, Passphrase, Refusal, Refused, SlotNumber, SlotState, offsets};
 use hmac::Counted;
@@ -39,12 +39,10 @@ pub fn key_matches(drive: Drive<'_>, key: &[u8]) -> Counted<bool>
     }
 }
 
-// The test of the key that a call is given: how many values of HMAC it made, or refusal 17.
-pub fn test_key(drive: Drive<'_>, key: &[u8]) -> Result<u64, Refused>
-    requires { length key.now ≤ 64 }
-    ensures { IsTested result (facts_in drive.entry.image.now) key.now }
+// What a test of a key says: how many values of HMAC it made, or refusal 17.
+pub fn tested(test: Counted<bool>) -> Result<u64, Refused>
+    ensures { result ≡ tested test }
 {
-    let test = key_matches(drive, key);
     if test.value {
         return Ok(test.made);
     }
@@ -52,6 +50,14 @@ pub fn test_key(drive: Drive<'_>, key: &[u8]) -> Result<u64, Refused>
         refusal: Refusal::WrongKey,
         values: test.made,
     })
+}
+
+// The test of the key that a call is given: how many values of HMAC it made, or refusal 17.
+pub fn test_key(drive: Drive<'_>, key: &[u8]) -> Result<u64, Refused>
+    requires { length key.now ≤ 64 }
+    ensures { IsTested result (facts_in drive.entry.image.now) key.now }
+{
+    tested(key_matches(drive, key))
 }
 
 // The candidate of an enabled slot, in d. How many values of HMAC were made.

@@ -166,8 +166,7 @@ static void expect_list(size_t from, unsigned slot) {
  * Around the library's PBKDF2, by valgrind. The arguments are what is made, its length, the hash, the passphrase, its length, the salt,
  * its length, the count; those behind the second are passed on as they are, so that it does no harm where the compiler has left one
  * out. It returns the number of HMAC values. What has 20 bytes is the checksum of a key and is public: that of the drive's key stands in
- * the header, and whether that of another differs is what the call answers. How many of its first bytes are the same may show too, since
- * the comparison ends at the first that differs.
+ * the header, and whether that of another differs is what the call answers. How many of its first bytes are the same may show too.
  */
 uint64_t I_WRAP_SONAME_FNNAME_ZZ(NONE, pbkdf2ZcZcpbkdf2)(uint8_t *made, size_t many, size_t hash, const void *from, size_t from_length,
                                                          const void *with, size_t with_length, size_t count) {

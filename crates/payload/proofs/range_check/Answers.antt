@@ -23,7 +23,7 @@ returns-in_err-ensure-2 c =
     let a = c.args in
     let r = c.in_err-ensure-2.ensures.refuses in
     let e₁ = true_by c.key_ok.ensures c.in_ok-ensure.ensures.passes in
-    let inside = c.in_payload.ensures ∙ ap (leb (a.from.0 + a.units.0)) c.payload_units.ensures in
+    let inside = c.in_payload-inside.ensures ∙ ap (leb (a.from.0 + a.units.0)) c.payload_units.ensures in
     checked_err _ _ c.from_residual-in_err-ensure-2.ensures.1 ∙ ap number r.0
     ∙ refused_by (range_checks (facts_in a.drive.image.now) a.key.now a.from.0 a.units.0 a.buffer.now) 1 (e₁, tt) (false_by inside r.1)
 
@@ -33,17 +33,17 @@ returns-in_err-ensure-3 c =
     let a = c.args in
     let r = c.in_err-ensure-3.ensures.refuses in
     let e₁ = true_by c.key_ok.ensures c.in_ok-ensure.ensures.passes in
-    let inside = c.in_payload.ensures ∙ ap (leb (a.from.0 + a.units.0)) c.payload_units.ensures in
+    let inside = c.in_payload-inside.ensures ∙ ap (leb (a.from.0 + a.units.0)) c.payload_units.ensures in
     let e₂ = true_by inside c.in_ok-ensure-2.ensures.passes in
     checked_err _ _ c.from_residual-in_err-ensure-3.ensures.1 ∙ ap number r.0
-    ∙ refused_by (range_checks (facts_in a.drive.image.now) a.key.now a.from.0 a.units.0 a.buffer.now) 2 (e₁, (e₂, tt)) (false_by c.holds_units.ensures r.1)
+    ∙ refused_by (range_checks (facts_in a.drive.image.now) a.key.now a.from.0 a.units.0 a.buffer.now) 2 (e₁, (e₂, tt)) (false_by c.holds_units-whole.ensures r.1)
 
 pub returns : goal.returns
 unfolding range_checks
 returns c =
     let a = c.args in
     let e₁ = true_by c.key_ok.ensures c.in_ok-ensure.ensures.passes in
-    let inside = c.in_payload.ensures ∙ ap (leb (a.from.0 + a.units.0)) c.payload_units.ensures in
+    let inside = c.in_payload-inside.ensures ∙ ap (leb (a.from.0 + a.units.0)) c.payload_units.ensures in
     let e₂ = true_by inside c.in_ok-ensure-2.ensures.passes in
-    let e₃ = true_by c.holds_units.ensures c.in_ok-ensure-3.ensures.passes in
+    let e₃ = true_by c.holds_units-whole.ensures c.in_ok-ensure-3.ensures.passes in
     all_pass (range_checks (facts_in a.drive.image.now) a.key.now a.from.0 a.units.0 a.buffer.now) (e₁, (e₂, (e₃, tt)))

@@ -17,6 +17,7 @@ use Rattle.header.specs.Refusals.{number}
 use Rattle.header.specs.Records.{facts_in}
 use Rattle.header.proofs.AnswerLaws.{answered_err, values_err, answered_as, values_as, number_some}
 use Rattle.slots.specs.Trials.{IsTested}
+use Rattle.slots.proofs.TestLaws.{tested_is}
 use Rattle.payload.proofs.PayloadLaws.{room, tested-wrong, tested-right}
 use Rattle.payload.proofs.write.Goals as goal
 
@@ -45,11 +46,32 @@ returns-in_err-range_check c =
     let h = c.from_residual-in_err-range_check.ensures.1 in
     record { code_is = answered_err _ e h ∙ p.code_is; image_is = p.image_is; values_are = values_err _ e h ∙ p.values_are }
 
-pub test_key-requires : goal.test_key-requires
-test_key-requires c =
+pub key_matches-test-requires : goal.key_matches-test-requires
+key_matches-test-requires c =
     let a = c.args in
     let d = c.in_ok-drive in
     (room d.drive.image.now d.drive.accepted a.key.now a.from.0 a.units.0 a.buffer.now (sym c.in_ok-range_check.ensures)).key_most
+
+pub returns : goal.returns
+unfolding early_checks late_checks answer done test_cost work_cost
+returns c =
+    let a = c.args in
+    let m = a.image.now in
+    let call = write a.key.now a.from.0 a.units.0 a.buffer.now in
+    let d = c.in_ok-drive.ensures in
+    let early : first (early_checks (facts_in m) call) ≡ 0 =
+    sym (c.in_ok-range_check.ensures ∙ ap (λ (i : List ℕ). first (range_checks (facts_in i) a.key.now a.from.0 a.units.0 a.buffer.now)) d.same)
+    in
+    let f = facts_in c.in_ok-drive.drive.image.now in
+    let t : IsTested (Ok c.in_ok-values.values) f a.key.now
+    = subst (λ r. IsTested r f a.key.now) (sym c.in_ok-values.ensures) (tested_is _ f a.key.now c.key_matches-test.ensures)
+    in
+    let right = tested-right (matches (facts_in m) a.key.now) (t.number_is ∙ ap (λ (i : List ℕ). cond (matches (facts_in i) a.key.now) 0 17) d.same) in
+    let late = first_pass (late_checks (facts_in m) call) (right, tt) in
+    let cost = t.values_are ∙ ap (λ (i : List ℕ). checksum_cost (facts_in i)) d.same in
+    let v : c.in_ok-values.values ≡ checksum_cost (facts_in m) + 0 = omega (arith, cost) in
+    let settled = step-accepted built m call (sym d.number) early late c.in_ok-values.values v in
+    does_accepted built m call _ _ settled 0 _ refl c.write_units.ensures
 
 pub returns-in_err-values : goal.returns-in_err-values
 unfolding early_checks late_checks test_cost
@@ -62,7 +84,10 @@ returns-in_err-values c =
     sym (c.in_ok-range_check.ensures ∙ ap (λ (i : List ℕ). first (range_checks (facts_in i) a.key.now a.from.0 a.units.0 a.buffer.now)) d.same)
     in
     let e = c.in_err-values.field-0.0 in
-    let t : IsTested (Err e) (facts_in c.in_ok-drive.drive.image.now) a.key.now = c.in_err-values.ensures in
+    let f = facts_in c.in_ok-drive.drive.image.now in
+    let t : IsTested (Err e) f a.key.now
+    = subst (λ r. IsTested r f a.key.now) (sym c.in_err-values.ensures) (tested_is _ f a.key.now c.key_matches-test.ensures)
+    in
     let wrong = tested-wrong e.refusal (matches (facts_in m) a.key.now) (t.number_is ∙ ap (λ (i : List ℕ). cond (matches (facts_in i) a.key.now) 0 17) d.same) in
     let late = refused_by (late_checks (facts_in m) call) 0 tt wrong in
     let p = does_refused built m call 17 e.values
@@ -71,21 +96,3 @@ returns-in_err-values c =
     let h = c.from_residual-in_err-values.ensures.1 in
     let seventeen = t.number_is ∙ ap (λ (i : List ℕ). cond (matches (facts_in i) a.key.now) 0 17) d.same ∙ ap (λ (b : Bool). cond b 0 17) wrong in
     record { code_is = answered_as _ e h ∙ seventeen ∙ p.code_is; image_is = p.image_is; values_are = values_as _ e h ∙ p.values_are }
-
-pub returns : goal.returns
-unfolding early_checks late_checks answer done test_cost work_cost
-returns c =
-    let a = c.args in
-    let m = a.image.now in
-    let call = write a.key.now a.from.0 a.units.0 a.buffer.now in
-    let d = c.in_ok-drive.ensures in
-    let early : first (early_checks (facts_in m) call) ≡ 0 =
-    sym (c.in_ok-range_check.ensures ∙ ap (λ (i : List ℕ). first (range_checks (facts_in i) a.key.now a.from.0 a.units.0 a.buffer.now)) d.same)
-    in
-    let t : IsTested (Ok c.in_ok-values.values) (facts_in c.in_ok-drive.drive.image.now) a.key.now = c.in_ok-values.ensures in
-    let right = tested-right (matches (facts_in m) a.key.now) (t.number_is ∙ ap (λ (i : List ℕ). cond (matches (facts_in i) a.key.now) 0 17) d.same) in
-    let late = first_pass (late_checks (facts_in m) call) (right, tt) in
-    let cost = t.values_are ∙ ap (λ (i : List ℕ). checksum_cost (facts_in i)) d.same in
-    let v : c.in_ok-values.values ≡ checksum_cost (facts_in m) + 0 = omega (arith, cost) in
-    let settled = step-accepted built m call (sym d.number) early late c.in_ok-values.values v in
-    does_accepted built m call _ _ settled 0 _ refl c.write_units.ensures

@@ -1,20 +1,15 @@
-use Rattle.std.proofs.Common.{◌≡◌, rules, map, nat_eq, is_some, IfSome, ap, sym, subst, ◌∙◌}
+use Rattle.std.proofs.Common.{◌≡◌, map, nat_eq, is_some, IfSome, ap, sym, subst, ◌∙◌}
 use Rattle.std.specs.List.{find}
 use Rattle.octets.specs.Octets.{zeros}
 use Rattle.profiles.specs.Rows.{name_of, hash_of, aes_xts_row, rows}
 use Rattle.profiles.specs.Records.{IsRow}
 use Rattle.profiles.proofs.RowLaws.{coded, with_number-known, with_number-row}
 use Rattle.profiles.proofs.with_number.Goals as goal
-use Rattle.profiles.proofs.with_number.Goals.{After-find}
+use Rattle.profiles.proofs.with_number.Goals.{After-first_numbered}
 
-table : (c : After-find) → c.iter.result.rest.now ≡ map coded rows
+found : (c : After-first_numbered) → c.first_numbered.result ≡ find (λ r. nat_eq r.number c.args.number) (map coded rows)
 unfolding zeros name_of hash_of aes_xts_row rows
-table c = search rules
-
-found : (c : After-find) → c.find.result ≡ find (λ r. nat_eq r.number c.args.number) (map coded rows)
-found c =
-    let e : c.find.result ≡ find (λ r. nat_eq r.number c.args.number) c.iter.result.rest.now = search rules in
-    e ∙ ap (find (λ r. nat_eq r.number c.args.number)) (table c)
+found c = c.first_numbered.ensures
 
 pub returns-clause-known : goal.returns-clause-known
 returns-clause-known c = ap is_some (found c) ∙ with_number-known rows c.args.number
